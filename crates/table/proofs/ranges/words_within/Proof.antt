@@ -1,0 +1,59 @@
+-- `table::ranges::words_within` meets its contract.
+use native.Mathlib.Omega.{arith}
+use mathlib.Core.Path.{_≡_, refl, sym, _∙_}
+use Prim.Native.Nat.{_+_, _*_}
+use Rattle.table.specs.Words.{words}
+use Rattle.table.specs.Lists.{every}
+use Rattle.table.specs.Limits.{within}
+use Rattle.table.proofs.Runs.{word-below, word-above, word-within, no-word}
+use Rattle.table.proofs.ranges.words_within.Statement.{statement}
+use Rattle.table.proofs.ranges.words_within.Tie as tie
+
+abbrev Inv-loop : tie.InvT-loop
+Inv-loop table from count low high at₀ left₀ at left = (at + 2 * left ≡ from + 2 * count) × (every (within low high) (words left table at) ≡ every (within low high) (words count table from))
+
+abbrev μ-loop : tie.MeasureT-loop
+μ-loop table from count low high at₀ left₀ at left = left
+
+loop-holds : tie.Need-loop-holds Inv-loop μ-loop
+loop-holds c = (omega arith, refl)
+
+number-requires : tie.Need-number-requires Inv-loop μ-loop
+number-requires c κs = omega arith
+
+returns : tie.Need-returns Inv-loop μ-loop
+returns c = sym (word-below (c .before .before .before .before .before .args .table .now) (c .before .before .before .loop .at) (c .before .before .before .loop .left) (c .before .before .before .before .before .args .low) (c .before .before .before .before .before .args .high) (c .before .before .loop-test .taken) (omega arith)) ∙ c .before .before .before .loop .inv .1
+
+returns-2 : tie.Need-returns-2 Inv-loop μ-loop
+returns-2 c = sym (word-above (c .before .before .before .before .before .before .args .table .now) (c .before .before .before .before .loop .at) (c .before .before .before .before .loop .left) (c .before .before .before .before .before .before .args .low) (c .before .before .before .before .before .before .args .high) (c .before .before .before .loop-test .taken) (omega arith)) ∙ c .before .before .before .before .loop .inv .1
+
+add-at : tie.Need-add-at Inv-loop μ-loop
+add-at c = omega arith
+
+sub-left : tie.Need-sub-left Inv-loop μ-loop
+sub-left c = omega arith
+
+loop-less : tie.Need-loop-less Inv-loop μ-loop
+loop-less c = omega arith
+
+loop-again : tie.Need-loop-again Inv-loop μ-loop
+loop-again c = (omega arith, sym (word-within (c .before .before .before .before .before .before .args .table .now) (c .before .before .before .before .loop .at) (c .before .before .before .before .loop .left) (c .before .before .before .before .before .before .args .low) (c .before .before .before .before .before .before .args .high) (c .before .before .before .loop-test .taken) (omega arith) (omega arith)) ∙ c .before .before .before .before .loop .inv .1)
+
+returns-3 : tie.Need-returns-3 Inv-loop μ-loop
+returns-3 c = sym (no-word (c .before .before .before .args .table .now) (c .before .loop .at) (c .before .loop .left) (c .before .before .before .args .low) (c .before .before .before .args .high) (c .loop-test .left)) ∙ c .before .loop .inv .1
+
+pub words-within-spec : {M : Type 1} → statement M
+words-within-spec =
+    tie.close
+    (tie.spec
+    Inv-loop
+    μ-loop
+    loop-holds
+    number-requires
+    returns
+    returns-2
+    add-at
+    sub-left
+    loop-less
+    loop-again
+    returns-3)

@@ -1,0 +1,15 @@
+// The table: every byte string is read, and is accepted with its frame or refused with the number and
+// the place that document 01 fixes. The definitions that the contracts cite stand in specs/; read
+// specs/Lib.antt first.
+pub mod body;
+pub mod check;
+pub mod limits;
+pub mod order;
+pub mod ranges;
+pub mod reading;
+pub mod record;
+pub mod refusals;
+pub mod rows;
+pub mod rules;
+pub mod sequence;
+pub mod words;
