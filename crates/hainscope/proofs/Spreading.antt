@@ -1,0 +1,81 @@
+-- The bits of a selection, spread over the requests one by one.
+use Prim.Native.Nat.{ℕ, zero, suc, _+_, _-_, _%_, _/_, _≤_, _<_}
+use mathlib.Core.Path.{_≡_, refl, sym, ap, ap₂, _∙_}
+use mathlib.Core.Bool.{Bool, true}
+use mathlib.Core.List.{List, [], _∷_, _++_, append-nil}
+use native.Mathlib.Omega.{arith}
+use native.Mathlib.Numerals.{add-one}
+use lib.Dec.{eqb}
+use lib.ListN.{length, take, set, length-set, drop-of-length-le}
+use lib.Seq.{sets, sets-eq}
+use borrow.Author.Tests.{eq-eqb, ne-eqb}
+use Rattle.table.specs.declared.record.Frame.{Frame}
+use Rattle.table.specs.Kept.{Kept, rowsOf}
+use Rattle.question.specs.Stands.{stands, byRole}
+use Rattle.question.specs.Asked.{Asked}
+use Rattle.hainscope.specs.declared.selecting.Asked.the-variants.{TooMuch, Told}
+use Rattle.hainscope.specs.Selecting.{bits, above, namesAbove, canStand}
+use Rattle.hainscope.specs.Written.{Spread, askedOf}
+use Rattle.hainscope.proofs.Bits.{length-bits}
+
+-- one bit more is spread
+pub bits-turn :
+    (left number at : ℕ) (X : List Bool) →
+    0 < left →
+    sets (set X at (eqb (number % 2) 1)) (at + 1) (bits (left - 1) (number / 2)) ≡ sets X at (bits left number)
+unfolding bits
+bits-turn zero number at X h = absurd (omega arith)
+bits-turn (suc left) number at X h = let e : suc left - 1 ≡ left = omega arith in rw (e, add-one)
+
+pub above-turn : (left number : ℕ) → 0 < left → above (left - 1) (number / 2) ≡ above left number
+unfolding above
+above-turn zero number h = absurd (omega arith)
+above-turn (suc left) number h = let e : suc left - 1 ≡ left = omega arith in rw e
+
+-- no bit is left to spread
+pub spread-done :
+    (left number at : ℕ) (X Y : List Bool) (selection : ℕ) →
+    left ≤ 0 →
+    0 < length Y →
+    sets X at (bits left number) ≡ sets Y 1 (bits (length Y - 1) selection) →
+    above left number ≡ above (length Y - 1) selection →
+    Spread Y X selection number
+unfolding bits above
+spread-done zero number at X Y selection h some e g =
+    let n : length (bits (length Y - 1) selection) ≡ length Y - 1 = length-bits (length Y - 1) selection in
+    let whole : length Y ≤ 1 + length (bits (length Y - 1) selection) = omega arith in
+    record {
+      flags =
+          e ∙ sets-eq (bits (length Y - 1) selection) Y 1 (omega arith)
+          ∙ rw (drop-of-length-le Y whole, append-nil);
+      rest-is = g;
+    }
+spread-done (suc left) number at X Y selection h some e g = absurd (omega arith)
+
+module _ (t : List ℕ) (f : Frame) (selection : ℕ) (X Y : List Bool) (kept : Kept t f) (each : length X ≡ f .requests + 1) (rest : ℕ) (spread : Spread (set X 0 true) Y selection rest) where
+  count : length (set X 0 true) - 1 ≡ f .requests
+  count = let e = length-set X 0 true in omega arith
+
+  flags-are : Y ≡ true ∷ bits (f .requests) selection
+  flags-are = spread .flags ∙ ap₂ _++_ (host X (omega arith)) (ap (λ (n : ℕ). bits n selection) count)
+    where
+      host : (Z : List Bool) → 0 < length Z → take 1 (set Z 0 true) ≡ true ∷ []
+      host [] h = absurd (omega arith)
+      host (z ∷ Z) h = refl
+
+  rest-of : rest ≡ above (f .requests) selection
+  rest-of = spread .rest-is ∙ ap (λ (n : ℕ). above n selection) count
+
+  -- the selection names a request above N
+  pub names-too-much : (rest ≡ 0 → ⊥) → TooMuch ≡ askedOf t f selection
+  unfolding askedOf namesAbove
+  names-too-much h = rw (← rest-of, ne-eqb rest 0 h)
+
+  -- the question may be asked
+  pub may-ask : Asked t f Y
+  may-ask = record { kept = kept; each = rw flags-are (ap suc (length-bits (f .requests) selection) ∙ sym (add-one (f .requests))); host = rw flags-are }
+
+  -- and its answer is the selection's
+  pub told-is : rest ≡ 0 → (answer : Bool) → answer ≡ stands (rowsOf t f) (f .variables) (byRole Y) → Told answer ≡ askedOf t f selection
+  unfolding askedOf namesAbove canStand
+  told-is z answer e = rw (← rest-of, eq-eqb rest 0 z) (ap Told (rw flags-are at e))
