@@ -1,0 +1,103 @@
+//! A builder that writes a table's bytes: HEAD, rows, ORDER, and CHECK with its word set right.
+//! It judges nothing: numbers out of range are written as they are, and reading refuses them.
+
+/// Kinds of records.
+const HEAD: u16 = 1;
+const CLAUSE: u16 = 2;
+const LINEAR: u16 = 3;
+const ORDER: u16 = 4;
+const CHECK: u16 = 5;
+
+/// A table in the making.
+///
+/// ```
+/// use hainscope::{refuses, wants, Table, TableBuilder};
+///
+/// let bytes = TableBuilder::new(1, 2)
+///     .clause(1, &[wants(0)])
+///     .clause(2, &[refuses(0)])
+///     .table();
+/// assert_eq!(bytes.len(), 38);
+/// assert!(Table::read(&bytes).is_ok());
+/// ```
+#[derive(Clone, Debug, PartialEq, Eq)]
+pub struct TableBuilder {
+    /// HEAD and the rows so far.
+    bytes: Vec<u8>,
+    /// What ORDER will name.
+    order: Vec<u16>,
+}
+
+impl TableBuilder {
+    /// A table of V variables, numbered from 0, and N requests, numbered from 1, without rows and
+    /// in the order 1 to N.
+    pub fn new(variables: u16, requests: u16) -> TableBuilder {
+        let mut bytes = Vec::new();
+        push_words(&mut bytes, HEAD, &[variables, requests]);
+        TableBuilder {
+            bytes,
+            order: (1..=requests).collect(),
+        }
+    }
+
+    /// A clause more: met where at least one literal is true. Role 0 is the host, r is request r.
+    pub fn clause(mut self, role: u16, literals: &[u16]) -> TableBuilder {
+        push_words(&mut self.bytes, CLAUSE, &[&[role], literals].concat());
+        self
+    }
+
+    /// A linear row more: met where the sum of weight times value is at most the bound. Terms are
+    /// variable and weight. Role 0 is the host, r is request r.
+    pub fn linear(mut self, role: u16, bound: i32, terms: &[(u16, i32)]) -> TableBuilder {
+        let mut body = role.to_le_bytes().to_vec();
+        body.extend(bound.to_le_bytes());
+        for (variable, weight) in terms {
+            body.extend(variable.to_le_bytes());
+            body.extend(weight.to_le_bytes());
+        }
+        push_record(&mut self.bytes, LINEAR, &body);
+        self
+    }
+
+    /// The requests in their order, most important first.
+    pub fn order(mut self, requests: &[u16]) -> TableBuilder {
+        self.order = requests.to_vec();
+        self
+    }
+
+    /// The table's bytes, ORDER and CHECK set at their end.
+    pub fn table(&self) -> Vec<u8> {
+        let mut bytes = self.bytes.clone();
+        push_words(&mut bytes, ORDER, &self.order);
+        push_words(&mut bytes, CHECK, &[0]);
+        let add = |sum: u16, two: &[u8]| sum.wrapping_add(u16::from_le_bytes([two[0], two[1]]));
+        let sum = bytes.chunks_exact(2).fold(0, add);
+        let word = bytes.len() - 2;
+        bytes[word..].copy_from_slice(&sum.wrapping_neg().to_le_bytes());
+        bytes
+    }
+}
+
+/// The literal that is true where a variable is 1.
+pub fn wants(variable: u16) -> u16 {
+    2 * variable
+}
+
+/// The literal that is true where a variable is 0.
+pub fn refuses(variable: u16) -> u16 {
+    2 * variable + 1
+}
+
+/// Writes a record whose body is words.
+fn push_words(bytes: &mut Vec<u8>, kind: u16, words: &[u16]) {
+    let body: Vec<u8> = words.iter().flat_map(|word| word.to_le_bytes()).collect();
+    push_record(bytes, kind, &body);
+}
+
+/// Writes a record. A body too long for its L makes a table of more than 32,768 bytes, which
+/// reading refuses before it looks at any L.
+fn push_record(bytes: &mut Vec<u8>, kind: u16, body: &[u8]) {
+    bytes.extend((body.len() as u16).to_le_bytes());
+    bytes.extend(kind.to_le_bytes());
+    bytes.extend(body);
+}

@@ -1,0 +1,58 @@
+//! An accepted table, lent by the caller, and what can be asked of its records.
+//! A refused table never becomes a [`Table`].
+
+use crate::calls;
+use crate::refusal::Refusal;
+
+/// The most requests that a table may have.
+pub const MOST_REQUESTS: u16 = 64;
+
+/// A table that the proved library has accepted.
+#[derive(Clone, Copy, Debug, PartialEq, Eq)]
+pub struct Table<'a> {
+    bytes: &'a [u8],
+}
+
+impl<'a> Table<'a> {
+    /// Reads a table: accepted, or refused with number and place.
+    ///
+    /// ```
+    /// use hainscope::{Table, TableBuilder};
+    ///
+    /// let mut bytes = TableBuilder::new(0, 0).table();
+    /// assert!(Table::read(&bytes).is_ok());
+    /// bytes[0] = 5;
+    /// assert_eq!(Table::read(&bytes).unwrap_err().number, 5);
+    /// ```
+    pub fn read(bytes: &'a [u8]) -> Result<Table<'a>, Refusal> {
+        let mut place = 0;
+        let number = calls::read(bytes, &mut place);
+        Refusal::unless_accepted(number, place)?;
+        Ok(Table { bytes })
+    }
+
+    /// The table's bytes.
+    pub fn bytes(&self) -> &'a [u8] {
+        self.bytes
+    }
+
+    /// The body of the record of a number, the first being 0. It is that stretch of the caller's
+    /// own table; it may be empty. Past the last record the refusal is 13.
+    ///
+    /// ```
+    /// use hainscope::{Table, TableBuilder};
+    ///
+    /// let bytes = TableBuilder::new(3, 0).table();
+    /// let table = Table::read(&bytes)?;
+    /// assert_eq!(table.body(0)?, [3, 0, 0, 0]); // HEAD: V 3, N 0
+    /// assert_eq!(table.body(1)?, []); // ORDER
+    /// assert_eq!(table.body(3).unwrap_err().number, 13);
+    /// # Ok::<(), hainscope::Refusal>(())
+    /// ```
+    pub fn body(&self, number: usize) -> Result<&'a [u8], Refusal> {
+        let (mut length, mut place) = (0, 0);
+        let refusal = calls::body(self.bytes, number, &mut length, &mut place);
+        Refusal::unless_accepted(refusal, place)?;
+        Ok(&self.bytes[place..place + length])
+    }
+}

@@ -1,0 +1,25 @@
+//! What the program prints for a table (document 01, "Sample sheet"): two lines of
+//! "name, status, halving count, k, then the k numbers", or one line for a refused table.
+
+use crate::methods::{Answer, Method, Sought};
+use crate::report::answer;
+use crate::rows::Event;
+
+/// The program's lines, each ended by a line feed.
+pub fn output(table: &[u8]) -> String {
+    match Event::of(table) {
+        Ok(event) => {
+            let conflict = answer(&event, Sought::Conflict, Method::Halving);
+            let relaxation = answer(&event, Sought::Relaxation, Method::Halving);
+            line("conflict", &conflict) + &line("relax", &relaxation)
+        }
+        Err(refusal) => format!("refused {} {}\n", refusal.number, refusal.place),
+    }
+}
+
+/// One line of an answer.
+fn line(name: &str, answer: &Answer) -> String {
+    let Answer { status, count, set } = answer;
+    let numbers: String = set.iter().map(|request| format!(" {request}")).collect();
+    format!("{name} {status} {count} {}{numbers}\n", set.len())
+}
