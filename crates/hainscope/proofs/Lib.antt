@@ -4,6 +4,7 @@
 --   BothMethods        demand 2 by the reports (`both-methods-tell-one-set`)
 --   OnlyOne            demand 1: every call has an outcome that keeps its promise (`every-call-is-answered`), and only one (`only-one-outcome`)
 --   AnswersOfTheSheet  the sample sheet, rows A to K, from bytes to answers (`sheet-holds`, `reports-hold`)
+--   CallsOfTheSheet    the public calls about table H, refusals 11 and 12 among them (`calls-hold`)
 -- What they rest on:
 --   Monotone           the question of a table is monotone; RightAnswers, each method's answer is the right one, and there is one
 --   Bits               the bits of a lent selection; PublicQuestion, every choice of requests can be lent and asked in public
@@ -11,6 +12,7 @@
 --   Outcomes           one law for each way out of a public call
 -- For the code: Told, Spreading, Writing, Keeping.
 pub mod AnswersOfTheSheet
+pub mod CallsOfTheSheet
 pub mod Monotone
 pub mod RightAnswers
 pub mod Bits

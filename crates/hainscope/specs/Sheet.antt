@@ -16,6 +16,7 @@ use Rattle.explain.specs.declared.answers.Method.{Method}
 use Rattle.explain.specs.declared.answers.Method.the-variants.{ConflictByHalving, ConflictOneByOne, RelaxationByHalving, RelaxationOneByOne}
 use Rattle.explain.specs.Methods.{answerBy}
 use Rattle.hainscope.specs.Reports.{tableQuestion, roomFor, numbersOf, placeAfter, bufferAfter}
+use Rattle.hainscope.specs.Calls.{CanStandCall, ReportCall}
 
 -- what one method answers: status, how many questions it asked, and the request numbers of its set in the order's order
 pub record Line : Type 0 where
@@ -184,3 +185,11 @@ pub record ReportsHold : Type 0 where
       14
   pub room-H : roomFor (frameH .requests) (take 22 lent) start ≡ true
   pub no-room-H : roomFor (frameH .requests) (take 21 lent) start ≡ false
+
+-- what the public calls say of H, in document 01's numbers: requests 1, 2 and 4 can stand; 2, 3 and 4 cannot; request 5 is above N, refusal 11;
+-- and a buffer that is a byte too short, refusal 12
+pub record CallsHold : Type 0 where
+  pub stand : CanStandCall tableH 11 0 1 0
+  pub fall : CanStandCall tableH 14 0 0 0
+  pub above-N : CanStandCall tableH 16 11 0 0
+  pub short : ReportCall ConflictByHalving tableH (take 21 lent) start 12 0 (take 21 lent)

@@ -1,0 +1,39 @@
+-- The public calls about table H, in document 01's numbers.
+use mathlib.Core.Path.{refl}
+use Rattle.table.specs.Words.{u16At, u32At, i32At, words, total}
+use Rattle.table.specs.Lists.{every, among, allDifferent}
+use Rattle.table.specs.Kinds.{kindOf, isKnown, isHead}
+use Rattle.table.specs.Rows.{termAt, terms, clauseAt, linearAt, rowOf, rows}
+use Rattle.table.specs.Limits.{within, termInRange, rowInRange}
+use Rattle.table.specs.Tests.{isWhole, headFirst, inSequence, roomForRow, lengthRight, inRange, noRepeat, addsToZero, nextPhase, nextFrame}
+use Rattle.table.specs.Reading.{ruleOf, stepAt, endingOf, scan, reading}
+use Rattle.question.specs.Meaning.{isTrue, anyOf, valueOf, product, sumOf, meets, roleOf, counts, respects, meetsAll}
+use Rattle.question.specs.Stands.{someSetting, stands}
+use Rattle.preference.specs.Selection.{all, none}
+use Rattle.preference.specs.Named.{named}
+use Rattle.preference.specs.Part.{entered}
+use Rattle.preference.specs.OneByOne.{oneConflict, oneRelax}
+use Rattle.preference.specs.Cut.{size, treeOf}
+use Rattle.preference.specs.Halving.{halveConflict, enterConflict, halveRelax, enterRelax}
+use Rattle.preference.specs.Answer.{answered}
+use Rattle.explain.specs.Asking.{chosenBy, questionOf}
+use Rattle.explain.specs.Methods.{answerBy}
+use Rattle.report.specs.Bytes.{u16Bytes, u32Bytes, numbersBytes}
+use Rattle.report.specs.Report.{headBytes, reportBytes}
+use Rattle.hainscope.specs.Reports.{kindBy, roomFor}
+use lib.ListN.{take}
+use Rattle.explain.specs.declared.answers.Method.the-variants.{ConflictByHalving}
+use Rattle.hainscope.specs.Selecting.{bits, above, namesAbove, canStand}
+use Rattle.hainscope.specs.Sheet.{CallsHold, frameH, lent, start}
+use Rattle.table.specs.Sheet.{tableH}
+use Rattle.hainscope.proofs.Outcomes.{can-stand-answered, can-stand-too-much, report-no-room}
+
+pub calls-hold : CallsHold
+unfolding u16At u32At i32At words total every among allDifferent kindOf isKnown isHead termAt terms clauseAt linearAt rowOf rows within termInRange rowInRange isWhole headFirst inSequence roomForRow lengthRight inRange noRepeat addsToZero nextPhase nextFrame ruleOf stepAt endingOf scan reading isTrue anyOf valueOf product sumOf meets roleOf counts respects meetsAll someSetting stands all none named entered oneConflict oneRelax size treeOf halveConflict enterConflict halveRelax enterRelax answered chosenBy questionOf answerBy u16Bytes u32Bytes numbersBytes headBytes reportBytes kindBy roomFor bits above namesAbove canStand
+calls-hold =
+    record {
+      stand = can-stand-answered tableH 11 frameH refl refl;
+      fall = can-stand-answered tableH 14 frameH refl refl;
+      above-N = can-stand-too-much tableH 16 frameH refl refl;
+      short = report-no-room ConflictByHalving tableH (take 21 lent) start frameH refl refl;
+    }
