@@ -71,15 +71,15 @@ same-next e = cc
 pub next-passed : (t : List ℕ) (at : ℕ) (s next : State) → stepAt t at s ≡ Next next → Passed t at s next
 unfolding stepAt isWhole ruleOf
 next-passed t at s next e =
-    let h2 = on _ cut _ e in
-    let h4 = on _ unknownKind _ (h2 .1) in
-    let h3 = on _ noHead _ (h4 .1) in
-    let h7 = on _ outOfSequence _ (h3 .1) in
-    let h10 = on _ tooManyRows _ (h7 .1) in
-    let h5 = on _ wrongLength _ (h10 .1) in
-    let h6 = on _ outOfRange _ (h5 .1) in
-    let h8 = on _ namedTwice _ (h6 .1) in
-    let h9 = on _ notZero _ (h8 .1) in
+    let h2 = on (isWhole t at) cut _ e in
+    let h4 = on (isKnown (kindAt t at)) unknownKind _ (h2 .1) in
+    let h3 = on (headFirst (s .phase) (kindAt t at)) noHead _ (h4 .1) in
+    let h7 = on (inSequence (s .phase) (kindAt t at)) outOfSequence _ (h3 .1) in
+    let h10 = on (roomForRow (kindAt t at) (s .frame .rows)) tooManyRows _ (h7 .1) in
+    let h5 = on (lengthRight (kindAt t at) (s .frame .requests) (lengthAt t at)) wrongLength _ (h10 .1) in
+    let h6 = on (inRange (kindAt t at) t at (s .frame)) outOfRange _ (h5 .1) in
+    let h8 = on (noRepeat (kindAt t at) t at (s .frame)) namedTwice _ (h6 .1) in
+    let h9 = on (addsToZero (kindAt t at) t at) notZero _ (h8 .1) in
     record {
       whole = leb-true (after t at) (length t) (both (leb (at + 4) (length t)) (leb (after t at) (length t)) (h2 .0) .1);
       known = h4 .0;
