@@ -1,6 +1,6 @@
 // The whole answer of a method: the start that all of them share, and then the method's own work.
 ghost use mathlib.Core.Path.{_≡_};
-ghost use Prim.Native.Nat.{_<_, _≤_};
+ghost use Prim.Native.Nat.{_<_};
 ghost use lib.ListN.{length};
 ghost use Rattle.preference.specs.Selection.{none};
 ghost use Rattle.explain.specs.Asking.{Lent, questionOf};

@@ -1,8 +1,6 @@
 // The halving method on a part of the requests, which calls itself on the two halves of the part.
 ghost use mathlib.Core.Path.{_≡_};
 ghost use mathlib.Core.Bool.{_&&_, not, cond};
-ghost use Prim.Native.Nat.{_+_, _≤_, _<_};
-ghost use lib.ListN.{length};
 ghost use Rattle.explain.specs.Asking.{Lent, questionOf};
 ghost use Rattle.explain.specs.Parts.{InGround, OutOfGround, ConflictWorked, RelaxationWorked, WholeTried};
 use crate::asking::ask;

@@ -1,5 +1,4 @@
 // The one-by-one method: each request is tried once, by one question.
-ghost use Prim.Native.Nat.{_≤_};
 ghost use mathlib.Core.List.{[]};
 ghost use lib.ListN.{length};
 ghost use Rattle.preference.specs.OneByOne.{oneConflict, oneRelax};

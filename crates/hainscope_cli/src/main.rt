@@ -1,7 +1,5 @@
 // The program: a table on standard input, and on standard output the preferred conflict and the preferred
 // relaxation, a line each, or one line with the table's refusal (document 01, "The program prints").
-ghost use Prim.Native.Nat.{_≤_};
-ghost use lib.ListN.{length};
 use hainscope::calls::hainscope_conflict;
 use hainscope::calls::hainscope_relaxation;
 use libc::STDIN_FILENO;

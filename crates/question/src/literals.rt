@@ -1,7 +1,6 @@
 // Whether a clause can still be met, where the variables below `free` are not decided.
 ghost use mathlib.Core.Path.{_≡_};
-ghost use mathlib.Core.Bool.{true};
-ghost use Prim.Native.Nat.{_+_, _*_, _<_};
+ghost use Prim.Native.Nat.{_*_, _<_};
 ghost use lib.ListN.{length};
 ghost use Rattle.table.specs.Words.{words};
 ghost use Rattle.question.specs.Meaning.{anyOf};

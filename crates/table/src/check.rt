@@ -1,6 +1,6 @@
 // The CHECK word: the words of a table add to zero, carries past 16 bits thrown away.
 ghost use mathlib.Core.Path.{_≡_};
-ghost use Prim.Native.Nat.{_+_, _*_, _%_, _^_, _≤_};
+ghost use Prim.Native.Nat.{_*_, _%_, _^_, _≤_};
 ghost use lib.ListN.{length};
 ghost use Rattle.table.specs.Words.{words, total};
 use crate::words::word;

@@ -1,6 +1,5 @@
 // The reading of a table: accepted with its frame, or refused with number and place.
 ghost use mathlib.Core.Path.{_≡_};
-ghost use lib.ListN.{length};
 ghost use Rattle.table.specs.Reading.{reading, endingOf};
 use crate::limits::MOST_BYTES;
 use crate::record::Frame;

@@ -1,7 +1,7 @@
 // The sequence of records: HEAD comes first, then rows, one ORDER, one CHECK, and the end. Each phase decides over
 // the kind number, and gives the record's rule, or refusal 4, 3 or 7.
 ghost use mathlib.Core.Path.{_≡_};
-ghost use Prim.Native.Nat.{_≤_, _<_, _*_};
+ghost use Prim.Native.Nat.{_≤_, _<_};
 ghost use lib.ListN.{length};
 ghost use Rattle.table.specs.declared.record.Frame.{Frame};
 ghost use Rattle.table.specs.declared.record.Phase.the-variants.{Start, Rows, Ordered, Checked};
