@@ -14,7 +14,8 @@ use Rattle.preference.specs.Named.{named}
 use Rattle.explain.specs.Asking.{chosenBy}
 use Rattle.hainscope.specs.Selecting.{selectionOf}
 use Rattle.hainscope.specs.Demands.{AskedInPublic}
-use Rattle.hainscope.proofs.OrderCovers.{order-covers, length-words}
+use Rattle.hainscope.proofs.OrderCovers.{order-covers}
+use Rattle.table.proofs.RecordsStand.{length-words}
 use Rattle.hainscope.proofs.PublicQuestion.{asked-in-public}
 
 -- the places of an order whose requests are chosen

@@ -1,6 +1,6 @@
 -- The order of an accepted table names every request: N different numbers of 1 to N leave none out.
 use Prim.Native.Nat.{ℕ, zero, suc, _+_, _≤_, _<_}
-use mathlib.Core.Path.{_≡_, refl, ap}
+use mathlib.Core.Path.{_≡_, refl}
 use mathlib.Core.Bool.{Bool, true, false, cond, _||_, not}
 use mathlib.Core.List.{List, [], _∷_}
 use native.Mathlib.Omega.{arith}
@@ -8,11 +8,11 @@ use lib.Dec.{eqb, leb, ltb}
 use lib.ListN.{length}
 use borrow.Author.Tests.{eqb-true, eqb-false, leb-true, ltb-true, le-leb, lt-ltb, not-true}
 use Rattle.table.specs.declared.record.Frame.{Frame}
-use Rattle.table.specs.Words.{words}
 use Rattle.table.specs.Lists.{every, among, allDifferent}
 use Rattle.table.specs.Limits.{within}
 use Rattle.table.specs.Kept.{Kept, orderOf}
 use Rattle.table.proofs.Steps.{both}
+use Rattle.table.proofs.RecordsStand.{length-words}
 
 -- neither of two tests was passed
 neither : (a b : Bool) → (a || b) ≡ false → (a ≡ false) × (b ≡ false)
@@ -114,12 +114,6 @@ different-are-few (suc m) xs d e =
     (one-lower m (without (suc m) xs) (still-every (suc m) (within 1 (suc m + 1)) xs e) (now-missing (suc m) xs d)) in
     let one = one-fewer (suc m) xs in
     omega arith
-
--- there are as many words as are read
-pub length-words : (k : ℕ) (t : List ℕ) (i : ℕ) → length (words k t i) ≡ k
-unfolding words
-length-words zero t i = refl
-length-words (suc k) t i = ap suc (length-words k t (i + 2))
 
 -- the order of a table that keeps its frame names every request
 pub order-covers : (t : List ℕ) (f : Frame) → Kept t f → (request : ℕ) → 0 < request → request ≤ f .requests → among request (orderOf t f) ≡ true

@@ -16,7 +16,8 @@ use Rattle.explain.specs.Asking.{chosenBy}
 use Rattle.hainscope.specs.Selecting.{bits, selectionOf, canStand}
 use Rattle.hainscope.specs.Reports.{tableQuestion}
 use Rattle.hainscope.proofs.Bits.{power-is-positive}
-use Rattle.hainscope.proofs.OrderCovers.{order-covers, length-words}
+use Rattle.hainscope.proofs.OrderCovers.{order-covers}
+use Rattle.table.proofs.RecordsStand.{length-words}
 use Rattle.hainscope.proofs.PublicQuestion.{asked-in-public}
 
 -- all bits are set in 2 ^ n - 1

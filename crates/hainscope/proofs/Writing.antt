@@ -22,7 +22,7 @@ use Rattle.explain.specs.Asking.{Lent, questionOf}
 use Rattle.explain.specs.Methods.{answerBy, Answers}
 use Rattle.report.specs.Written.{Written}
 use Rattle.report.proofs.InBuffer.{written-in-buffer, part-from}
-use Rattle.hainscope.proofs.OrderCovers.{length-words}
+use Rattle.table.proofs.RecordsStand.{length-words}
 use Rattle.hainscope.specs.Reports.{kindBy, roomFor, placeAfter}
 use Rattle.hainscope.specs.Calls.{noRoom}
 use Rattle.hainscope.specs.Written.{tableAnswer, Ready, RecordWritten, AcceptedCall}

@@ -21,7 +21,7 @@ use Rattle.table.specs.Kept.{RowKept}
 use Rattle.question.specs.Meaning.{Setting, anyOf, roleOf}
 use Rattle.question.specs.Pruning.{mayBeTrue, leastSum, mayMeet}
 use Rattle.question.specs.Completing.{LiteralsAsked, TermsAsked, RowAsked}
-use Rattle.question.proofs.Tested.{both}
+use Rattle.table.proofs.Steps.{both}
 
 -- kind 2 is a clause
 kind-two : (k : ℕ) → k ≡ 2 → kindOf k ≡ Clause

@@ -13,7 +13,8 @@ use Rattle.table.specs.Limits.{within}
 use Rattle.table.proofs.Runs.{words-turn}
 use Rattle.question.specs.Meaning.{Setting, isTrue, anyOf}
 use Rattle.question.specs.Pruning.{mayBeTrue}
-use Rattle.question.proofs.Tested.{both, every-head, any-here, any-later}
+use Rattle.question.proofs.Tested.{every-head, any-here, any-later}
+use Rattle.table.proofs.Steps.{both}
 
 module _ (setting : Setting) (free literal : ℕ) where
   -- the variable is free

@@ -19,7 +19,8 @@ use Rattle.table.specs.Limits.{termInRange, mostWeight}
 use Rattle.table.proofs.Runs.{terms-turn}
 use Rattle.question.specs.Meaning.{Setting, valueOf}
 use Rattle.question.specs.Pruning.{negativeOf, least, leastSum}
-use Rattle.question.proofs.Tested.{both, every-head}
+use Rattle.question.proofs.Tested.{every-head}
+use Rattle.table.proofs.Steps.{both}
 use Rattle.question.proofs.Differences.{Diff, diff-add, diff-le, diff-raised}
 
 -- an i32 by its bits, and 2^31 more

@@ -1,14 +1,10 @@
 -- Lists of which every element, or at least one, passes a test.
 use mathlib.Core.Path.{_≡_, refl, sym, ap₂, _∙_}
-use mathlib.Core.Bool.{Bool, true, false, _&&_, _||_, false≢true, true≢false, or-true}
+use mathlib.Core.Bool.{Bool, true, false, _&&_, _||_, true≢false, or-true}
 use mathlib.Core.List.{List, [], _∷_, List·Memᴰ, List·Memᴰ·head, List·Memᴰ·tail, List·Memᴰ·not-nil}
 use Rattle.table.specs.Lists.{every}
+use Rattle.table.proofs.Steps.{both}
 use Rattle.question.specs.Meaning.{anyOf}
-
--- both hold where their conjunction does
-pub both : (a b : Bool) → (a && b) ≡ true → (a ≡ true) × (b ≡ true)
-both true b e = (refl, e)
-both false b e = absurd (false≢true e)
 
 pub together : {a b : Bool} → a ≡ true → b ≡ true → (a && b) ≡ true
 together p q = rw (p, q)

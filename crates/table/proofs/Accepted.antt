@@ -27,10 +27,12 @@ use Rattle.table.proofs.Steps.{Passed, next-passed, scan-ends, scan-goe
 no-refusal : {X : Type 0} {number place : ℕ} {f : Frame} → refusedAt number place ≡ Accepted f → X
 no-refusal e = let z : _≡_ {A = ℕ} 0 1 = cc in absurd (omega arith)
 
-same-frame : {f g : Frame} → Accepted f ≡ Accepted g → f ≡ g
+-- an accepted table has one frame
+pub same-frame : {f g : Frame} → Accepted f ≡ Accepted g → f ≡ g
 same-frame e = cc
 
-clash : {X : Type 0} → false ≡ true → X
+-- true is not false
+pub clash : {X : Type 0} → false ≡ true → X
 clash e = let z : _≡_ {A = ℕ} 0 1 = cc in absurd (omega arith)
 
 -- the record at hand was passed, and the rest of the scan accepts

@@ -13,10 +13,7 @@ use Rattle.table.specs.Rows.{Term, Row, clause, linear}
 use Rattle.table.specs.Limits.{within, termInRange, rowInRange, orderInRange}
 use Rattle.table.specs.Model.{Each, OtherThan, Different, IsI32, LiteralWithin, TermWithin, ClauseWithin, LinearWithin, RowWithin, IsRequest}
 use Rattle.table.proofs.Steps.{both}
-
--- no test both fails and passes
-pub clash : {X : Type 0} → false ≡ true → X
-clash e = let z : _≡_ {A = ℕ} 0 1 = cc in absurd (omega arith)
+use Rattle.table.proofs.Accepted.{clash}
 
 -- what holds of each element of two lists holds of each of both together
 pub each-append : {A : Type 0} (Holds : A → Type 0) (xs ys : List A) → Each Holds xs → Each Holds ys → Each Holds (xs ++ ys)

@@ -13,7 +13,7 @@ use Rattle.table.specs.Reading.{reading}
 use Rattle.table.specs.Kept.{rowsOf, orderOf}
 use Rattle.table.specs.Model.{Model, WithinLimits}
 use Rattle.table.specs.Encoding.{IsBytes, encode, frameOf, modelOf, StandsFor}
-use Rattle.table.proofs.Accepted.{accepted-keeps}
+use Rattle.table.proofs.Accepted.{accepted-keeps, same-frame}
 use Rattle.table.proofs.Scanned.{keeps-accepted}
 use Rattle.table.proofs.Written.{encode-keeps, encode-says}
 use Rattle.table.proofs.Decoded.{kept-encodes, kept-within}
@@ -21,9 +21,6 @@ use Rattle.table.proofs.Decoded.{kept-encodes, kept-within}
 -- a model within the limits, whose encoding is no longer than a table may be, encodes to an accepted table
 pub encode-accepted : (m : Model) → WithinLimits m → length (encode m) ≤ 32768 → reading (encode m) ≡ Accepted (frameOf m)
 encode-accepted m within short = keeps-accepted (encode m) (frameOf m) (encode-keeps m within short)
-
-same-frame : {f g : Frame} → Accepted f ≡ Accepted g → f ≡ g
-same-frame e = cc
 
 module _ (m : Model) (within : WithinLimits m) (short : length (encode m) ≤ 32768) (f : Frame) (e : reading (encode m) ≡ Accepted f) where
   -- with whatever frame it is accepted, that frame is the model's

@@ -17,7 +17,8 @@ use Rattle.table.specs.Model.{Each, RowWithin}
 use Rattle.table.specs.Encoding.{IsBytes, u16, u32, i32, recordOf, encodeNumbers, encodeTerms, encodeRow, encodeRows}
 use Rattle.table.proofs.KindNumbers.{above-five}
 use Rattle.table.proofs.Steps.{both}
-use Rattle.table.proofs.Limited.{clash, clause-passed, linear-passed}
+use Rattle.table.proofs.Accepted.{clash}
+use Rattle.table.proofs.Limited.{clause-passed, linear-passed}
 use Rattle.table.proofs.Sizes.{length-numbers, length-terms}
 use Rattle.table.proofs.NumbersStand.{u16-stands, i32-stands, i32-is, numbers-stand, terms-stand}
 

@@ -20,7 +20,7 @@ use Rattle.table.specs.Tests.{headFirst, inSequence, roomForRow, lengthR
 use Rattle.table.specs.Reading.{ruleOf, inPhase, endingOf, scan, beginning, reading}
 use Rattle.table.specs.Kept.{RowKept, RowsKept, Kept}
 use Rattle.table.proofs.WaysOut.{passes-all}
-use Rattle.table.proofs.Limited.{clash}
+use Rattle.table.proofs.Accepted.{clash}
 use Rattle.table.proofs.Steps.{whole-step, scan-goes-on, scan-ends}
 
 -- the tests of a record of a kind, all passed

@@ -19,11 +19,11 @@ shared-slice-read-times c = search needs
 times-requires : tie.Need-times-requires
 times-requires c κs = search needs
 
-mul-result : tie.Need-mul-result
-mul-result c = record { fits = omega (arith, weight-counts (c .before .before .before .before .before .before .args .table .now) (c .before .before .before .before .before .before .args .at) (c .before .before .before .before .before .before .args .free) (c .before .before .before .before .before .before .args .setting .now) (c .before .before .before .number .result) (c .before .before .long-number .result) (c .before .before .before .number .ensures .0) (c .before .before .long-number .ensures .0) (c .before .before .long-number .ensures .1) (c .times .result) (c .times .ensures) .1) }
-
 returns : tie.Need-returns
 returns c = weight-counts (c .before .before .before .before .before .before .args .table .now) (c .before .before .before .before .before .before .args .at) (c .before .before .before .before .before .before .args .free) (c .before .before .before .before .before .before .args .setting .now) (c .before .before .before .number .result) (c .before .before .long-number .result) (c .before .before .before .number .ensures .0) (c .before .before .long-number .ensures .0) (c .before .before .long-number .ensures .1) (c .times .result) (c .times .ensures)
+
+mul-result : tie.Need-mul-result
+mul-result c = record { fits = omega (arith, weight-counts (c .before .before .before .before .before .before .args .table .now) (c .before .before .before .before .before .before .args .at) (c .before .before .before .before .before .before .args .free) (c .before .before .before .before .before .before .args .setting .now) (c .before .before .before .number .result) (c .before .before .long-number .result) (c .before .before .before .number .ensures .0) (c .before .before .long-number .ensures .0) (c .before .before .long-number .ensures .1) (c .times .result) (c .times .ensures) .1) }
 
 pub least-bits-spec : {M : Type 1} → statement M
 least-bits-spec =
