@@ -13,9 +13,9 @@ use Rattle.table.specs.Lists.{every, among}
 use Rattle.table.specs.Limits.{mostRequests, within}
 use Rattle.table.specs.Kept.{rowsOf}
 use Rattle.table.proofs.Steps.{both}
-use Rattle.question.specs.Stands.{stands, byRole}
+use Rattle.meaning.specs.Stands.{stands, byRole}
 use Rattle.question.specs.Asked.{Asked}
-use Rattle.question.proofs.Choices.{same-on-table}
+use Rattle.meaning.proofs.Choices.{same-on-table}
 use Rattle.preference.specs.Selection.{Selection}
 use Rattle.preference.specs.Named.{named}
 use Rattle.explain.specs.Asking.{chosenBy, questionOf, Lent, NoneChosen, marked}

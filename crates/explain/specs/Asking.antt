@@ -8,7 +8,7 @@ use Rattle.table.specs.declared.record.Frame.{Frame}
 use Rattle.table.specs.Lists.{among}
 use Rattle.table.specs.Limits.{mostRequests, orderInRange}
 use Rattle.table.specs.Kept.{Kept, rowsOf}
-use Rattle.question.specs.Stands.{stands}
+use Rattle.meaning.specs.Stands.{stands}
 use Rattle.preference.specs.Selection.{Selection}
 use Rattle.preference.specs.Question.{Question}
 use Rattle.preference.specs.Named.{named}

@@ -7,8 +7,8 @@ use Rattle.table.specs.Rows.{termAt, terms, clauseAt, linearAt, rowOf, rows}
 use Rattle.table.specs.Limits.{within, termInRange, rowInRange}
 use Rattle.table.specs.Tests.{isWhole, headFirst, inSequence, roomForRow, lengthRight, inRange, noRepeat, addsToZero, nextPhase, nextFrame}
 use Rattle.table.specs.Reading.{ruleOf, stepAt, endingOf, scan, reading}
-use Rattle.question.specs.Meaning.{isTrue, anyOf, valueOf, product, sumOf, meets, roleOf, counts, respects, meetsAll}
-use Rattle.question.specs.Stands.{someSetting, stands}
+use Rattle.meaning.specs.Meaning.{isTrue, anyOf, valueOf, product, sumOf, meets, roleOf, counts, respects, meetsAll}
+use Rattle.meaning.specs.Stands.{someSetting, stands}
 use Rattle.preference.specs.Selection.{all, none}
 use Rattle.preference.specs.Named.{named}
 use Rattle.preference.specs.Part.{entered}

@@ -7,7 +7,7 @@ use lib.Dec.{eqb}
 use Rattle.table.specs.declared.record.Frame.{Frame}
 use Rattle.table.specs.Lists.{among}
 use Rattle.table.specs.Kept.{rowsOf}
-use Rattle.question.proofs.Choices.{fewer-stand}
+use Rattle.meaning.proofs.Choices.{fewer-stand}
 use Rattle.preference.specs.Selection.{Selection, _⊆_, ends, same, more}
 use Rattle.preference.specs.Question.{Monotone}
 use Rattle.preference.specs.Named.{named}

@@ -7,7 +7,7 @@ use native.Mathlib.Omega.{arith}
 use lib.ListN.{length, getD}
 use Rattle.table.specs.declared.record.Frame.{Frame}
 use Rattle.table.specs.Kept.{Kept, orderOf}
-use Rattle.question.proofs.Choices.{same-on-table}
+use Rattle.meaning.proofs.Choices.{same-on-table}
 use Rattle.preference.specs.Selection.{Selection}
 use Rattle.preference.specs.Question.{Agree}
 use Rattle.explain.specs.Asking.{chosenBy, questionOf}

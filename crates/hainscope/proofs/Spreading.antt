@@ -11,7 +11,7 @@ use lib.Seq.{sets, sets-eq}
 use borrow.Author.Tests.{eq-eqb, ne-eqb}
 use Rattle.table.specs.declared.record.Frame.{Frame}
 use Rattle.table.specs.Kept.{Kept, rowsOf}
-use Rattle.question.specs.Stands.{stands, byRole}
+use Rattle.meaning.specs.Stands.{stands, byRole}
 use Rattle.question.specs.Asked.{Asked}
 use Rattle.hainscope.specs.declared.selecting.Asked.the-variants.{TooMuch, Told}
 use Rattle.hainscope.specs.Selecting.{bits, above, namesAbove, canStand}

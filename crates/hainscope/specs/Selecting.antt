@@ -5,7 +5,7 @@ use mathlib.Core.List.{List, [], _∷_}
 use lib.Dec.{eqb}
 use Rattle.table.specs.declared.record.Frame.{Frame}
 use Rattle.table.specs.Kept.{rowsOf}
-use Rattle.question.specs.Stands.{stands, byRole}
+use Rattle.meaning.specs.Stands.{stands, byRole}
 
 -- the first n bits of a number, the lowest first
 unfoldable pub bits : ℕ → ℕ → List Bool

@@ -1,16 +1,7 @@
--- The laws of the question, bottom up. For those above it: Standing, what `stands` says and the smallest setting; Choices, how the answers
--- to different selections hang together. For the code: Clauses, Sums, Asking and RowByRow, the loops over a row and over the rows;
--- Noting, the walk that finds the rows that count; Relaxed, why pruning loses nothing; FirstFound and Searching, what the search finds.
-pub mod Tested
-pub mod Differences
-pub mod Clauses
-pub mod Sums
-pub mod Asking
-pub mod RowByRow
+-- The laws of the question, bottom up: Noting, the walk that finds the rows that count; Rearranging and OpenRows, the list of their places,
+-- sorted in place; Searching, each way out of the search; Answering, why what it finds answers the question.
 pub mod Noting
-pub mod Relaxed
-pub mod FirstFound
-pub mod Standing
-pub mod Choices
+pub mod Rearranging
+pub mod OpenRows
 pub mod Searching
-pub mod Examples
+pub mod Answering

@@ -1,6 +1,6 @@
 -- The walk that notes the places of the rows that count, and why they are all that a question asks about.
 use Prim.Native.Nat.{ℕ, zero, suc, _+_, _-_, _<_, _≤_}
-use mathlib.Core.Path.{_≡_, refl, sym, ap, _∙_, fun-ext}
+use mathlib.Core.Path.{_≡_, refl, sym, ap, _∙_}
 use mathlib.Core.Bool.{Bool, true, false, cond, _&&_}
 use mathlib.Core.List.{List, [], _∷_, _++_, append-assoc, append-nil}
 use native.Mathlib.Omega.{arith}
@@ -8,18 +8,18 @@ use native.Mathlib.Numerals.{add-one}
 use native.Mathlib.Nat.{add-zero}
 use lib.Dec.{eqb·suc-zero}
 use lib.ListN.{length, getD, take, set}
-use lib.Seq.{take-set-le, take-suc-set}
+use lib.Seq.{take-set-le, take-suc-set, getD-take, length-take-le}
 use Rattle.table.specs.declared.record.Frame.{Frame}
 use Rattle.table.specs.Lists.{every}
 use Rattle.table.specs.Words.{u16At}
 use Rattle.table.specs.Rows.{rows, rowAt, after}
 use Rattle.table.specs.Kept.{RowKept, RowsKept, firstRow}
-use Rattle.question.specs.Meaning.{Setting, valueOf, meets, roleOf, counts, respects, meetsAll}
-use Rattle.question.specs.Stands.{byRole}
+use Rattle.meaning.specs.Meaning.{Setting, valueOf, meets, roleOf, counts, respects, meetsAll}
+use Rattle.meaning.specs.Stands.{byRole}
 use Rattle.question.specs.Asked.{Asked}
 use Rattle.question.specs.Counting.{countingPlaces, Noted}
-use Rattle.question.specs.Completing.{RowsAsked, meetsPlaces}
-use Rattle.question.proofs.Asking.{row-role, role-at}
+use Rattle.meaning.specs.WholeRows.{RowsAsked}
+use Rattle.meaning.proofs.OneRow.{row-role, role-at}
 
 -- each of the rows that are left is whole and in range
 pub rows-kept-turn : (v n : ℕ) (t : List ℕ) (k at end : ℕ) → 0 < k → RowsKept v n t k at end → RowKept v n t at × RowsKept v n t (k - 1) (after t at) end
@@ -37,20 +37,15 @@ unfolding every
 one-row true met rest test at places e f = rw (e, f)
 one-row false met rest test at places e f = f
 
-every-counting :
+-- a setting meets the rows at the places of those that count exactly where it meets all that counts
+pub every-counting :
     (chosen : ℕ → Bool) (setting : Setting) (m : ℕ) (t : List ℕ) (at : ℕ) →
-    meetsPlaces t (countingPlaces chosen m t at) setting ≡ meetsAll chosen setting (rows m t at)
+    every (λ place. meets setting (rowAt t place)) (countingPlaces chosen m t at) ≡ meetsAll chosen setting (rows m t at)
 unfolding countingPlaces rows meetsAll every respects
 every-counting chosen setting zero t at = refl
 every-counting chosen setting (suc m) t at =
     one-row (counts chosen (roleOf (rowAt t at))) (meets setting (rowAt t at)) _
     (λ place. meets setting (rowAt t place)) at (countingPlaces chosen m t (after t at)) refl (every-counting chosen setting m t (after t at))
-
--- a setting meets the rows at the places of those that count exactly where it meets all that counts
-pub meets-counting :
-    (chosen : ℕ → Bool) (m : ℕ) (t : List ℕ) (at : ℕ) →
-    meetsPlaces t (countingPlaces chosen m t at) ≡ (λ setting. meetsAll chosen setting (rows m t at))
-meets-counting chosen m t at = fun-ext (λ setting. every-counting chosen setting m t at)
 
 -- the rows at these places are whole and in range
 module _ (chosen : ℕ → Bool) (v n : ℕ) (t : List ℕ) where
@@ -70,16 +65,19 @@ module _ (chosen : ℕ → Bool) (v n : ℕ) (t : List ℕ) where
 
 -- so that the search may read them
 pub noted-asked :
-    (t : List ℕ) (f : Frame) (chosen : List Bool) (places : List ℕ) (setting : Setting) →
+    (t : List ℕ) (f : Frame) (chosen : List Bool) (places : List ℕ) (noted variables : ℕ) →
     Asked t f chosen →
-    places ≡ countingPlaces (byRole chosen) (f .rows) t firstRow →
-    length setting ≡ f .variables →
-    RowsAsked t places setting
-noted-asked t f chosen places setting asked counting h =
-    rw counting
-    (record {
-      each = λ i below. record { requests = f .requests; row-kept = rw h (counting-kept (byRole chosen) (f .variables) (f .requests) t (f .rows) firstRow (f .order) (asked .kept .rows-kept) i below) };
-    })
+    Noted (byRole chosen) (f .rows) t places noted →
+    variables ≡ f .variables →
+    RowsAsked t places noted variables
+noted-asked t f chosen places noted variables asked counting h = record { few = counting .few; each = λ i below. record { requests = f .requests; row-kept = rw h (there i below) } }
+  where
+    there : (i : ℕ) → i < noted → RowKept (f .variables) (f .requests) t (getD places i 0)
+    there i below =
+        let long : length (take noted places) ≡ noted = length-take-le noted places (counting .few) in
+        let many : i < length (countingPlaces (byRole chosen) (f .rows) t firstRow) = omega (arith, ap length (counting .places-noted)) in
+        rw (← getD-take noted places i 0 below, counting .places-noted)
+        (counting-kept (byRole chosen) (f .variables) (f .requests) t (f .rows) firstRow (f .order) (asked .kept .rows-kept) i many)
 
 -- with the host's entry true, what counts is what is chosen
 counts-chosen : (chosen : List Bool) → getD chosen 0 false ≡ true → (role : ℕ) → counts (byRole chosen) role ≡ getD chosen role false

@@ -6,7 +6,7 @@ use mathlib.Core.List.{List, [], _∷_}
 use lib.ListN.{length, take}
 use Rattle.table.specs.Rows.{rowAt, after}
 use Rattle.table.specs.Kept.{firstRow}
-use Rattle.question.specs.Meaning.{roleOf, counts}
+use Rattle.meaning.specs.Meaning.{roleOf, counts}
 
 -- of the m rows from a place on, the places of those that count
 unfoldable pub countingPlaces : (ℕ → Bool) → ℕ → List ℕ → ℕ → List ℕ

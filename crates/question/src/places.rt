@@ -3,8 +3,8 @@
 ghost use mathlib.Core.Path.{_≡_};
 ghost use Prim.Native.Nat.{_≤_};
 ghost use lib.ListN.{length};
-ghost use Rattle.question.specs.Meaning.{valueOf};
-ghost use Rattle.question.specs.Stands.{byRole};
+ghost use Rattle.meaning.specs.Meaning.{valueOf};
+ghost use Rattle.meaning.specs.Stands.{byRole};
 ghost use Rattle.question.specs.Asked.{Asked};
 ghost use Rattle.question.specs.Counting.{Noted};
 use table::record::Frame;

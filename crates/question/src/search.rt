@@ -1,48 +1,70 @@
-// The search: depth first, the highest variable first and 0 first, so that the first setting found is the
-// smallest as a number. A branch ends as soon as some row that counts cannot be met any more.
+// The search: rows that every completion meets are put aside, and a variable that the open rows need most is decided next. A branch ends
+// as soon as no completion meets some row, or no row is open.
 ghost use mathlib.Core.Path.{_≡_};
-ghost use Prim.Native.Nat.{_≤_};
+ghost use Prim.Native.Nat.{_<_};
 ghost use lib.ListN.{length};
 ghost use Rattle.table.specs.Kept.{rowsOf};
-ghost use Rattle.question.specs.Stands.{stands, byRole};
-ghost use Rattle.question.specs.Smallest.{Answered};
+ghost use Rattle.meaning.specs.Stands.{stands, byRole};
 ghost use Rattle.question.specs.Asked.{Asked};
-ghost use Rattle.question.specs.Completing.{RowsAsked, Completed, meetsPlaces};
+ghost use Rattle.meaning.specs.WholeRows.{RowsAsked};
+ghost use Rattle.question.specs.Completing.{Completed, MeetsCounting, Searched};
+use crate::narrowing::all_met;
+use crate::narrowing::narrow_unless_blind;
 use crate::places::note_places;
-use crate::rows::rows_may_hold;
+use choice::choosing::choose;
+use choice::notes::MOST_NOTES;
+use choice::notes::blame;
+use meaning::half_made::UNDECIDED;
 use table::limits::MOST_ROWS;
 use table::limits::MOST_VARIABLES;
 use table::record::Frame;
 
-// Whether some values of the variables below `free` meet all rows at these places, with the values that
-// `setting` has for the others. Where they do, the first of them stand in `setting`.
-fn complete(table: &[u8], places: &[u16], setting: &mut [bool], free: usize) -> bool
-    requires { ⌜ RowsAsked (now table) (now places) (now setting) × (free ≤ length (now setting)) ⌝ }
-    ensures { λ r. ⌜ Completed (meetsPlaces (now (table .entry)) (now (places .entry))) free (now (setting .entry)) (now (setting .exit)) r ⌝ }
+// Whether some setting with the decided values meets the rows at the first `count` places. `notes` and `blind`, the number of levels that
+// are still decided without a look at the rows, choose the way and never the answer.
+fn complete(
+    table: &[u8],
+    places: &mut [u16],
+    count: usize,
+    values: &mut [u8],
+    notes: &mut [u32],
+    blind: usize,
+) -> bool
+    requires { ⌜ RowsAsked (now table) (now places) count (length (now values)) × (length (now values) < 65536) ⌝ }
+    ensures { λ r. ⌜ Searched (now (table .entry)) count (now (places .entry)) (now (places .exit)) (now (values .entry)) (now (values .exit)) r ⌝ }
 {
-    if !rows_may_hold(table, places, setting, free) {
+    let left = narrow_unless_blind(table, places, count, values, blind);
+    if count < left {
+        blame(notes, left - count);
         return false;
     }
-    if free == 0 {
+    if left == 0 {
         return true;
     }
-    let variable = free - 1;
-    setting[variable] = false;
-    if complete(table, places, setting, variable) {
+    let choice = choose(table, places, left, values, notes, blind);
+    let variable = choice.variable;
+    if values.len() <= variable {
+        return all_met(table, places, left, values);
+    }
+    values[variable] = choice.first;
+    if complete(table, places, left, values, notes, choice.blind) {
+        values[variable] = UNDECIDED;
         return true;
     }
-    setting[variable] = true;
-    complete(table, places, setting, variable)
+    values[variable] = 1 - choice.first;
+    let answer = complete(table, places, left, values, notes, choice.blind);
+    values[variable] = UNDECIDED;
+    answer
 }
 
-// Whether the selection can stand; where it can, the smallest setting stands in `setting`.
-pub fn find_setting(table: &[u8], frame: Frame, chosen: &[bool], setting: &mut [bool]) -> bool
-    requires { ⌜ Asked (now table) frame (now chosen) × (length (now setting) ≡ frame .variables) ⌝ }
-    ensures { λ r. ⌜ Answered (rowsOf (now (table .entry)) frame) (frame .variables) (byRole (now (chosen .entry))) r (now (setting .exit)) ⌝ }
+// Whether some setting with the decided values meets all host rows and all rows of the chosen requests.
+pub fn can_complete(table: &[u8], frame: Frame, chosen: &[bool], values: &mut [u8]) -> bool
+    requires { ⌜ Asked (now table) frame (now chosen) × (length (now values) ≡ frame .variables) ⌝ }
+    ensures { λ r. ⌜ Completed (MeetsCounting (now (table .entry)) frame (now (chosen .entry))) (now (values .entry)) (now (values .exit)) r ⌝ }
 {
     let mut places = [0; MOST_ROWS];
     let noted = note_places(table, frame, chosen, &mut places);
-    complete(table, &places[..noted], setting, frame.variables)
+    let mut notes = [0; MOST_NOTES];
+    complete(table, &mut places, noted, values, &mut notes, 0)
 }
 
 // Whether the selection can stand.
@@ -51,6 +73,6 @@ pub fn can_stand(table: &[u8], frame: Frame, chosen: &[bool]) -> bool
     ensures { λ r. ⌜ r ≡ stands (rowsOf (now (table .entry)) frame) (frame .variables) (byRole (now (chosen .entry))) ⌝ }
 {
     let variables = frame.variables;
-    let mut setting = [false; MOST_VARIABLES];
-    find_setting(table, frame, chosen, &mut setting[..variables])
+    let mut values = [UNDECIDED; MOST_VARIABLES];
+    can_complete(table, frame, chosen, &mut values[..variables])
 }

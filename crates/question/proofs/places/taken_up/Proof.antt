@@ -1,5 +1,5 @@
 use native.Mathlib.Omega.{arith}
-use Rattle.question.specs.Meaning.{valueOf}
+use Rattle.meaning.specs.Meaning.{valueOf}
 use Rattle.question.proofs.places.taken_up.Statement.{statement}
 use Rattle.question.proofs.places.taken_up.Tie as tie
 

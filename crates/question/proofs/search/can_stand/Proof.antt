@@ -1,29 +1,44 @@
 use mathlib.Core.Path.{sym}
-use mathlib.Core.Bool.{false}
+use Prim.Native.Nat.{ℕ}
 use lib.ListN.{replicate}
 use lib.Seq.{length-take-le}
 use Rattle.table.specs.Limits.{mostVariables}
+use Rattle.meaning.proofs.HalfMade.{all-free}
+use Rattle.question.proofs.Answering.{answered}
+use native.Mathlib.Omega.{arith}
 use borrow.Author.Needs.{needs}
 use Rattle.question.proofs.search.can_stand.Statement.{statement}
 use Rattle.question.proofs.search.can_stand.Tie as tie
+use Rattle.question.proofs.search.can_stand.Reads as reads
+use Rattle.question.proofs.search.can_stand.Lts as lts
+use Rattle.question.proofs.search.can_complete.Reads as can-complete-reads
 
-array-borrow-prefix-setting : tie.Need-array-borrow-prefix-setting
-array-borrow-prefix-setting c = search needs
+-- src/search.rt:74:40
+array-borrow-prefix-values : tie.Need-array-borrow-prefix-values
+array-borrow-prefix-values c = search needs
 
-slice-aggregate-find-setting : tie.Need-slice-aggregate-find-setting
-slice-aggregate-find-setting c = sym (length-take-le (c .before .before .before .args .frame .variables) (replicate mostVariables false) (c .before .before .before .pre .kept .few-variables))
+-- src/search.rt:74:40
+slice-aggregate-can-complete : tie.Need-slice-aggregate-can-complete
+slice-aggregate-can-complete c = sym (length-take-le (c .before .before .before .args .frame .variables) (replicate {A = ℕ} mostVariables 2) (c .before .before .before .pre .kept .few-variables))
 
-find-setting-requires : tie.Need-find-setting-requires
-find-setting-requires c κs = (c .before .before .before .pre, length-take-le (c .before .before .before .args .frame .variables) (replicate mostVariables false) (c .before .before .before .pre .kept .few-variables))
+-- src/search.rt:74:5
+can-complete-requires : tie.Need-can-complete-requires
+can-complete-requires c κs =
+    let known = c .before .before .before .pre in
+    (known, length-take-le (c .before .before .before .args .frame .variables) (replicate {A = ℕ} mostVariables 2) (known .kept .few-variables))
 
+-- src/search.rt:68:1
 returns : tie.Need-returns
-returns c = search needs
+returns c =
+    let entry = c .before .before .before .before .before .args in
+    let known = c .before .before .before .before .before .pre in
+    answered (entry .table .now) (entry .frame) (entry .chosen .now) _ _ _ (length-take-le (entry .frame .variables) (replicate {A = ℕ} mostVariables 2) (known .kept .few-variables)) (all-free mostVariables (entry .frame .variables) (known .kept .few-variables)) (c .before .can-complete .ensures)
 
 pub can-stand-spec : {M : Type 1} → statement M
 can-stand-spec =
     tie.close
     (tie.spec
-    array-borrow-prefix-setting
-    slice-aggregate-find-setting
-    find-setting-requires
+    array-borrow-prefix-values
+    slice-aggregate-can-complete
+    can-complete-requires
     returns)

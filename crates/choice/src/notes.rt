@@ -1,0 +1,100 @@
+// What the choice notes for itself while a search goes on: the score of each literal, and behind these how dear each variable has been. An
+// entry that is not there reads as 0, and nothing is written to it; sums wrap.
+ghost use Prim.Native.Nat.{_<_};
+use std::num::wrapping_add_u32;
+use table::limits::MOST_VARIABLES;
+
+// So many notes there are.
+pub const MOST_NOTES: usize = 3 * MOST_VARIABLES;
+
+// The scores come first, and then the dearness of variable 0.
+const DEARNESS: usize = 2 * MOST_VARIABLES;
+
+// The note at a place.
+fn note_at(notes: &[u32], at: usize) -> u32 {
+    if notes.len() <= at {
+        return 0;
+    }
+    notes[at]
+}
+
+// Adds to the note at a place.
+fn add_to_note(notes: &mut [u32], at: usize, more: u32) {
+    if at < notes.len() {
+        notes[at] = wrapping_add_u32(notes[at], more);
+    }
+}
+
+// Adds to the score of a literal.
+pub fn add_score(notes: &mut [u32], literal: usize, more: u32) {
+    if literal < DEARNESS {
+        add_to_note(notes, literal, more);
+    }
+}
+
+// Sets the note at a place to 0.
+fn clear_note(notes: &mut [u32], at: usize) {
+    if at < notes.len() {
+        notes[at] = 0;
+    }
+}
+
+// Sets all scores to 0.
+pub fn clear_scores(notes: &mut [u32]) {
+    let mut next = 0;
+    while next < DEARNESS {
+        clear_note(notes, next);
+        next = next + 1;
+    }
+}
+
+// The score of a variable: what its two literals have together.
+pub fn score_of(notes: &[u32], variable: usize) -> u32
+    requires { ⌜ variable < 65536 ⌝ }
+{
+    let literal = 2 * variable;
+    wrapping_add_u32(note_at(notes, literal), note_at(notes, literal + 1))
+}
+
+// Whether the literal that is true where the variable is 0 has the higher score.
+pub fn zero_is_better(notes: &[u32], variable: usize) -> bool
+    requires { ⌜ variable < 65536 ⌝ }
+{
+    let literal = 2 * variable;
+    note_at(notes, literal) < note_at(notes, literal + 1)
+}
+
+// What variables are compared by: dearness first, then score; 0 where the variable has no score.
+pub fn rank_of(notes: &[u32], variable: usize) -> u64
+    requires { ⌜ variable < 65536 ⌝ }
+{
+    let score = score_of(notes, variable);
+    if score == 0 {
+        return 0;
+    }
+    4294967296 * (note_at(notes, DEARNESS + variable) as u64) + score as u64
+}
+
+// Makes a variable dearer, where it has a score.
+fn make_dearer(notes: &mut [u32], variable: usize, more: u32)
+    requires { ⌜ variable < 65536 ⌝ }
+{
+    if score_of(notes, variable) == 0 {
+        return;
+    }
+    add_to_note(notes, DEARNESS + variable, more);
+}
+
+// Makes the variables with a score dearer where a row failed only after many others were tested. Such variables choose which row fails; once
+// they are decided early, the same rows fail again and again, and these are tested first.
+pub fn blame(notes: &mut [u32], tested: usize) {
+    let more = (tested / 16 % 65536) as u32;
+    if more == 0 {
+        return;
+    }
+    let mut variable = 0;
+    while variable < MOST_VARIABLES {
+        make_dearer(notes, variable, more);
+        variable = variable + 1;
+    }
+}

@@ -1,0 +1,113 @@
+-- Half-made settings: one more variable decided, all of them, and none.
+use Prim.Native.Nat.{ℕ, zero, suc, _+_, _-_, _<_, _≤_}
+use mathlib.Core.Path.{_≡_, refl, sym, ap, _∙_}
+use mathlib.Core.Logic.{_⊎_, inl, inr}
+use mathlib.Core.Bool.{Bool, true, false, true≢false, false≢true}
+use mathlib.Core.List.{List, [], _∷_}
+use native.Mathlib.Omega.{arith}
+use lib.Dec.{eqb, ltb}
+use lib.ListN.{length, getD, set, take, replicate, length-set, length-replicate, getD-replicate, List·getD-eq-default}
+use lib.Seq.{getD-set-same, getD-set-other, set-set, set-getD, getD-take, length-take-le}
+use borrow.Author.Tests.{eqb-true, eqb-false, ne-eqb, ltb-true, ltb-false}
+use Rattle.meaning.specs.Meaning.{Setting, valueOf}
+use Rattle.meaning.specs.HalfMade.{Values, isFree, isSet, Agrees, undecided}
+
+-- the setting that gives every undecided variable 0
+pub settled : Values → Setting
+settled [] = []
+settled (value ∷ more) = eqb value 1 ∷ settled more
+
+settled-length : (values : Values) → length (settled values) ≡ length values
+unfolding settled
+settled-length [] = refl
+settled-length (value ∷ more) = ap suc (settled-length more)
+
+settled-at : (values : Values) (variable : ℕ) → getD (settled values) variable false ≡ isSet values variable
+unfolding settled
+settled-at [] variable = refl
+settled-at (value ∷ more) zero = refl
+settled-at (value ∷ more) (suc variable) = settled-at more variable
+
+pub settled-agrees : (values : Values) → Agrees values (settled values)
+settled-agrees values = record { each = settled-length values; decided = λ variable h. settled-at values variable }
+
+-- no variable beyond the last is free
+pub none-beyond : (values : Values) (variable : ℕ) → length values ≤ variable → isFree values variable ≡ false
+none-beyond values variable beyond = rw (List·getD-eq-default values 0 {n = variable} beyond)
+
+pub free-below : (values : Values) → ((other : ℕ) → other < length values → isFree values other ≡ false) → (other : ℕ) → isFree values other ≡ false
+free-below values none other = go (ltb other (length values)) refl
+  where
+    go : (less : Bool) → ltb other (length values) ≡ less → isFree values other ≡ false
+    go true p = none other (ltb-true other (length values) p)
+    go false p = none-beyond values other (ltb-false other (length values) p)
+
+-- where none is decided, every setting of that length agrees
+pub free-agrees : (values : Values) (setting : Setting) → length setting ≡ length values → ((other : ℕ) → other < length values → getD values other 0 ≡ 2) → Agrees values setting
+free-agrees values setting h free = record { each = h; decided = λ variable decided. go variable decided (ltb variable (length values)) refl }
+  where
+    go : (variable : ℕ) → isFree values variable ≡ false → (less : Bool) → ltb variable (length values) ≡ less → getD setting variable false ≡ isSet values variable
+    go variable decided true p =
+        let e : getD values variable 0 ≡ 2 = free variable (ltb-true variable (length values) p) in
+        absurd (true≢false (rw e at decided))
+    go variable decided false p =
+        let above : length values ≤ variable = ltb-false variable (length values) p in
+        rw (List·getD-eq-default values 0 {n = variable} above) (List·getD-eq-default setting false {n = variable} (omega arith))
+
+-- a list of which no entry is decided
+pub all-free : (most v : ℕ) → v ≤ most → (other : ℕ) → other < length (take v (replicate {A = ℕ} most 2)) → getD (take v (replicate {A = ℕ} most 2)) other 0 ≡ 2
+all-free most v h other below =
+    let long : length (take v (replicate {A = ℕ} most 2)) ≡ v = length-take-le v (replicate {A = ℕ} most 2) (omega (arith, length-replicate {A = ℕ} most 2)) in
+    rw (getD-take v (replicate {A = ℕ} most 2) other 0 (omega arith)) (getD-replicate {A = ℕ} most other 2 0 (omega arith))
+
+fewer : (values : Values) (variable value : ℕ) → isFree values variable ≡ true → eqb value 2 ≡ false → undecided (set values variable value) < undecided values
+unfolding undecided valueOf
+fewer [] variable value free one = absurd (false≢true free)
+fewer (x ∷ more) zero value free one = rw (free, one) (omega arith)
+fewer (x ∷ more) (suc variable) value free one = omega (arith, fewer more variable value free one)
+
+module _ (values : Values) (variable : ℕ) (inside : variable < length values) (free : isFree values variable ≡ true) where
+  -- fewer variables are undecided once it is decided, and so where another value is tried
+  pub fewer-undecided : (value many : ℕ) → value ≤ 1 → undecided values ≡ many → undecided (set values variable value) < many
+  fewer-undecided value many h e = omega (arith, fewer values variable value free (ne-eqb value 2 (λ e. omega arith)))
+
+  pub fewer-again :
+      (now-values : Values) (value other many : ℕ) → now-values ≡ set values variable other → value ≤ 1 → undecided values ≡ many → undecided (set now-values variable value) < many
+  fewer-again now-values value other many same h e = rw (same, set-set values variable other value) (fewer-undecided value many h e)
+
+  -- a setting with one decided value more has the decided values
+  pub agrees-without : (value : ℕ) (setting : Setting) → Agrees (set values variable value) setting → Agrees values setting
+  agrees-without value setting agrees =
+      record {
+        each = simp length-set at (agrees .each);
+        decided = λ other h.
+            let differ : other ≡ variable → ⊥ = λ e. let f : isFree values variable ≡ false = rw e at h in true≢false (sym free ∙ f) in
+            let same : getD (set values variable value) other 0 ≡ getD values other 0 = getD-set-other values variable other value 0 differ in
+            rw same at (agrees .decided other (rw same h));
+      }
+
+  -- one that gives the variable this value has one decided value more
+  pub agrees-with : (value : ℕ) (setting : Setting) → Agrees values setting → getD setting variable false ≡ eqb value 1 → Agrees (set values variable value) setting
+  agrees-with value setting agrees e = record { each = simp length-set (agrees .each); decided = λ other h. go other h (eqb other variable) refl }
+    where
+      go : (other : ℕ) → isFree (set values variable value) other ≡ false → (here : Bool) → eqb other variable ≡ here → getD setting other false ≡ isSet (set values variable value) other
+      go other h true p =
+          let s : other ≡ variable = eqb-true other variable p in
+          rw (s, getD-set-same values variable value 0 inside) e
+      go other h false p =
+          let same : getD (set values variable value) other 0 ≡ getD values other 0 = getD-set-other values variable other value 0 (eqb-false other variable p) in
+          rw same (agrees .decided other (rw same at h))
+
+  -- the variable is made free again
+  pub set-back : (value : ℕ) → set (set values variable value) variable 2 ≡ values
+  set-back value =
+      let e : getD values variable 0 ≡ 2 = eqb-true (getD values variable 0) 2 free in
+      set-set values variable value 2 ∙ rw e at (set-getD values variable 0)
+
+-- a value is the one or the other of 0 and 1
+pub one-or-other : (one : ℕ) → one ≤ 1 → (value : Bool) → (value ≡ eqb one 1) ⊎ (value ≡ eqb (1 - one) 1)
+one-or-other zero h true = inr refl
+one-or-other zero h false = inl refl
+one-or-other (suc zero) h true = inl refl
+one-or-other (suc zero) h false = inr refl
+one-or-other (suc (suc one)) h value = absurd (omega arith)

@@ -1,0 +1,100 @@
+use Rattle.meaning.proofs.Sums.{term-named, Summed, summed-start, summed-turn, summed-end}
+use mathlib.Core.Path.{_≡_}
+use mathlib.Core.Bool.{true}
+use Prim.Native.Nat.{_+_, _*_, _≤_}
+use lib.ListN.{length}
+use Rattle.table.specs.Rows.{terms}
+use Rattle.table.specs.Lists.{every}
+use Rattle.table.specs.Limits.{termInRange}
+use Rattle.meaning.specs.States.{negativeOf, positiveOf}
+use native.Mathlib.Omega.{arith}
+use borrow.Author.Needs.{needs}
+use Rattle.meaning.proofs.terms.ends_of.Statement.{statement}
+use Rattle.meaning.proofs.terms.ends_of.Tie as tie
+use Rattle.meaning.proofs.terms.ends_of.Reads as reads
+use Rattle.meaning.proofs.terms.ends_of.Lts as lts
+use Rattle.meaning.proofs.terms.least_bits.Reads as least-bits-reads
+use Rattle.meaning.proofs.terms.most_bits.Reads as most-bits-reads
+use Rattle.meaning.proofs.terms.raised.Reads as raised-reads
+
+abbrev Inv-loop : tie.InvT-loop
+Inv-loop table from count values least₀ most₀ at₀ left₀ least most at left = (at + 6 * left ≡ from + 6 * count) × (least + 4294967296 * left ≤ 4294967296 * count) × (most + 4294967296 * left ≤ 4294967296 * count) × (every (termInRange (length values)) (terms left table at) ≡ true) × Summed negativeOf values table from count at left least × Summed positiveOf values table from count at left most
+
+abbrev μ-loop : tie.MeasureT-loop
+μ-loop table from count values least₀ most₀ at₀ left₀ least most at left = left
+
+-- src/terms.rt:79:5
+loop-holds : tie.Need-loop-holds Inv-loop μ-loop
+loop-holds c = (omega arith, omega arith, omega arith, c .before .before .pre .named, summed-start _ _ _ _ _, summed-start _ _ _ _ _)
+
+-- src/terms.rt:80:32
+least-bits-requires : tie.Need-least-bits-requires Inv-loop μ-loop
+least-bits-requires c κs = (omega arith, term-named (c .before .before .before .before .args .table .now) (c .before .loop .at) (c .before .loop .left) (c .loop-test .taken) _ (c .before .loop .inv .3) .0)
+
+-- src/terms.rt:80:25
+raised-requires : tie.Need-raised-requires Inv-loop μ-loop
+raised-requires c κs = omega arith
+
+-- src/terms.rt:80:17
+add-least : tie.Need-add-least Inv-loop μ-loop
+add-least c = omega arith
+
+-- src/terms.rt:81:30
+most-bits-requires : tie.Need-most-bits-requires Inv-loop μ-loop
+most-bits-requires c κs =
+    let entry = c .before .before .before .before .before .before .args in
+    let loop = c .before .before .before .loop in
+    (omega arith, term-named (entry .table .now) (loop .at) (loop .left) (c .before .before .loop-test .taken) _ (loop .inv .3) .0)
+
+-- src/terms.rt:81:23
+raised-requires-2 : tie.Need-raised-requires-2 Inv-loop μ-loop
+raised-requires-2 c κs = omega arith
+
+-- src/terms.rt:81:16
+add-most : tie.Need-add-most Inv-loop μ-loop
+add-most c = omega arith
+
+-- src/terms.rt:82:14
+add-at : tie.Need-add-at Inv-loop μ-loop
+add-at c = omega arith
+
+-- src/terms.rt:83:16
+sub-left : tie.Need-sub-left Inv-loop μ-loop
+sub-left c = omega arith
+
+-- src/terms.rt:79:5
+loop-less : tie.Need-loop-less Inv-loop μ-loop
+loop-less c = omega arith
+
+-- src/terms.rt:79:5
+loop-again : tie.Need-loop-again Inv-loop μ-loop
+loop-again c =
+    let entry = c .before .before .before .before .before .before .before .before .args in
+    let loop = c .before .before .before .before .before .loop in
+    let loop-test = c .before .before .before .before .loop-test in
+    let least-bits = c .before .before .before .least-bits in
+    let raised = c .before .before .raised in
+    (omega arith, omega arith, omega arith, term-named (entry .table .now) (loop .at) (loop .left) (loop-test .taken) _ (loop .inv .3) .1, summed-turn _ _ _ _ _ (loop .at) (loop .left) (loop .least) (least-bits .result) (raised .result) (loop-test .taken) (least-bits .ensures .0) (raised .ensures .0) (loop .inv .4), summed-turn _ _ _ _ _ (loop .at) (loop .left) (loop .most) (c .before .most-bits .result) (c .raised2 .result) (loop-test .taken) (c .before .most-bits .ensures .0) (c .raised2 .ensures .0) (loop .inv .5))
+
+-- src/terms.rt:71:1
+returns : tie.Need-returns Inv-loop μ-loop
+returns c = record { least-told = summed-end negativeOf _ _ _ _ (c .before .loop .at) (c .before .loop .left) (c .before .loop .least) (c .loop-test .left) (c .before .loop .inv .4); most-told = summed-end positiveOf _ _ _ _ (c .before .loop .at) (c .before .loop .left) (c .before .loop .most) (c .loop-test .left) (c .before .loop .inv .5); small = (omega arith, omega arith) }
+
+pub ends-of-spec : {M : Type 1} → statement M
+ends-of-spec =
+    tie.close
+    (tie.spec
+    Inv-loop
+    μ-loop
+    loop-holds
+    least-bits-requires
+    raised-requires
+    add-least
+    most-bits-requires
+    raised-requires-2
+    add-most
+    add-at
+    sub-left
+    loop-less
+    loop-again
+    returns)
