@@ -35,7 +35,7 @@ fn count_named(values: &[u8], notes: &[u32]) -> usize
     named
 }
 
-// How many levels are decided blindly below a level at which `blind` are, and so many rows are open.
+// How many levels more are decided blindly below a level, where `blind` are at it and so many rows are open.
 pub fn blind_below(values: &[u8], notes: &[u32], blind: usize, rows: usize) -> usize
     requires { ⌜ length (now values) < 65536 ⌝ }
 {

@@ -1,6 +1,7 @@
 // What the choice notes for itself while a search goes on: the score of each literal, and behind these how dear each variable has been. An
 // entry that is not there reads as 0, and nothing is written to it; sums wrap.
 ghost use Prim.Native.Nat.{_<_};
+use meaning::half_made::is_undecided;
 use std::num::wrapping_add_u32;
 use table::limits::MOST_VARIABLES;
 
@@ -75,26 +76,29 @@ pub fn rank_of(notes: &[u32], variable: usize) -> u64
     4294967296 * (note_at(notes, DEARNESS + variable) as u64) + score as u64
 }
 
-// Makes a variable dearer, where it has a score.
-fn make_dearer(notes: &mut [u32], variable: usize, more: u32)
+// Makes a variable dearer, where it is decided and has a score.
+fn make_dearer(values: &[u8], notes: &mut [u32], variable: usize, more: u32)
     requires { ⌜ variable < 65536 ⌝ }
 {
+    if is_undecided(values, variable) {
+        return;
+    }
     if score_of(notes, variable) == 0 {
         return;
     }
     add_to_note(notes, DEARNESS + variable, more);
 }
 
-// Makes the variables with a score dearer where a row failed only after many others were tested. Such variables choose which row fails; once
-// they are decided early, the same rows fail again and again, and these are tested first.
-pub fn blame(notes: &mut [u32], tested: usize) {
+// Makes variables dearer where a row failed only after many others were tested: those that were decided since the rows were scored. They
+// choose which row fails; once they are decided early, the same rows fail again and again, and these are tested first.
+pub fn blame(values: &[u8], notes: &mut [u32], tested: usize) {
     let more = (tested / 16 % 65536) as u32;
     if more == 0 {
         return;
     }
     let mut variable = 0;
     while variable < MOST_VARIABLES {
-        make_dearer(notes, variable, more);
+        make_dearer(values, notes, variable, more);
         variable = variable + 1;
     }
 }

@@ -14,9 +14,6 @@ use table::words::long_number;
 use table::words::magnitude;
 use table::words::number;
 
-// So many rows are scored at most.
-const MOST_SCORED: usize = 64;
-
 // What a row adds to the score of a literal that it needs: 2^19.
 const NEEDED: u32 = 524288;
 
@@ -151,20 +148,10 @@ fn score_rows(table: &[u8], places: &[u16], count: usize, values: &[u8], notes: 
     }
 }
 
-// So many of the first rows are scored, since a row that failed stands among them.
-fn few_of(count: usize) -> usize
-    ensures { λ r. ⌜ r ≤ count ⌝ }
-{
-    if MOST_SCORED < count {
-        return MOST_SCORED;
-    }
-    count
-}
-
-// Scores all literals anew, by the rows at the first `count` places or as many of them as are scored.
+// Scores all literals anew, by the rows at the first `count` places.
 pub fn score_anew(table: &[u8], places: &[u16], count: usize, values: &[u8], notes: &mut [u32])
     requires { ⌜ RowsAsked (now table) (now places) count (length (now values)) ⌝ }
 {
     clear_scores(notes);
-    score_rows(table, places, few_of(count), values, notes);
+    score_rows(table, places, count, values, notes);
 }

@@ -9,9 +9,9 @@ use lib.Dec.{leb, ltb, eqb}
 use lib.ListN.{getD}
 use lib.IntN.{ℤ, pos, natAbs, _+ℤ_, +ℤ-idl, +ℤ-idr, +ℤ-assoc}
 use lib.Signed.{leZ}
-use borrow.Author.Tests.{le-ltb, le-leb, lt-leb, ltb-true, ltb-false}
+use borrow.Author.Tests.{eqb-true, le-ltb, le-leb, lt-leb, ltb-true, ltb-false}
 use mir.Syntax.{w32}
-use mir.Val.{toZ}
+use mir.Val.{toZ, boolByte}
 use Rattle.table.specs.Lists.{every}
 use Rattle.table.specs.Words.{u16At, u32At, i32At}
 use Rattle.table.specs.Rows.{Term, termAt, terms}
@@ -34,6 +34,23 @@ raised-by-half bits h = go (ltb bits 2147483648) refl
     go false p =
         let l : 2147483648 ≤ bits = ltb-false bits 2147483648 p in
         rw (p, le-ltb 2147483648 (suc (4294967296 - suc bits)) (omega arith)) (ap pos (omega arith))
+
+-- how often a weight counts, by products instead of tests
+pub counted-small : (free : ℕ) (undecided one : Bool) → free ≤ 1 → (free * boolByte undecided ≤ 1) × (boolByte one ≤ 1)
+counted-small free true true h = (rw (mul-one free) h, omega arith)
+counted-small free true false h = (rw (mul-one free) h, omega arith)
+counted-small free false true h = (rw (mul-zero free) (omega arith), omega arith)
+counted-small free false false h = (rw (mul-zero free) (omega arith), omega arith)
+
+pub counted-by-products : (value free : ℕ) → free * boolByte (eqb value 2) + boolByte (eqb value 1) ≡ cond (eqb value 2) free (valueOf (eqb value 1))
+unfolding valueOf
+counted-by-products value free = go (eqb value 2) (eqb value 1) refl refl
+  where
+    go : (undecided one : Bool) → eqb value 2 ≡ undecided → eqb value 1 ≡ one → free * boolByte undecided + boolByte one ≡ cond undecided free (valueOf one)
+    go true true p q = let a : value ≡ 2 = eqb-true value 2 p in let b : value ≡ 1 = eqb-true value 1 q in absurd (omega arith)
+    go true false p q = rw (mul-one free) (omega arith)
+    go false true p q = rw (mul-zero free) (omega arith)
+    go false false p q = rw (mul-zero free) (omega arith)
 
 -- the side of a weight that counts while its variable is free, by its bits
 module _ (bits : ℕ) (fits : bits < 4294967296) where

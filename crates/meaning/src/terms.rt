@@ -2,7 +2,7 @@
 // i32 weights: each term is added with 2^31 more, so that nothing lies below 0.
 ghost use mathlib.Core.Path.{_≡_};
 ghost use mathlib.Core.Bool.{cond};
-ghost use Prim.Native.Nat.{_+_, _<_};
+ghost use Prim.Native.Nat.{_+_, _<_, _≤_};
 ghost use lib.Dec.{eqb};
 ghost use lib.ListN.{length};
 ghost use lib.IntN.{pos, _+ℤ_};
@@ -28,21 +28,18 @@ pub fn raised(bits: usize) -> usize
     (bits + HALF) % 4294967296
 }
 
-// How often a weight counts in a sum, 0 or 1: with its variable free as often as is said, else where the variable is 1.
+// How often a weight counts in a sum, 0 or 1: with its variable undecided as often as is said, else where the variable is 1. Products
+// instead of tests leave the compiled code no branch to mispredict.
 fn times(value: u8, free: usize) -> usize
+    requires { ⌜ free ≤ 1 ⌝ }
     ensures { λ r. ⌜ r ≡ cond (eqb value 2) free (valueOf (eqb value 1)) ⌝ }
 {
-    if value == UNDECIDED {
-        return free;
-    }
-    if value == 1 {
-        return 1;
-    }
-    0
+    let undecided = value == UNDECIDED;
+    let one = value == 1;
+    free * (undecided as usize) + one as usize
 }
 
-// The 32 bits of the least that the term at a place can come to. A product instead of a test leaves the
-// compiled code no branch to mispredict.
+// The 32 bits of the least that the term at a place can come to.
 fn least_bits(table: &[u8], at: usize, values: &[u8]) -> usize
     requires { ⌜ (at + 5 < length (now table)) × (u16At (now table) at < length (now values)) ⌝ }
     ensures { λ r. ⌜ (toZ w32 r ≡ atEnd negativeOf (now (values .entry)) (termAt (now (table .entry)) at)) × (r < 4294967296) ⌝ }

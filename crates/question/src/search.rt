@@ -34,7 +34,7 @@ fn complete(
 {
     let left = narrow_unless_blind(table, places, count, values, blind);
     if count < left {
-        blame(notes, left - count);
+        blame(values, notes, left - count);
         return false;
     }
     if left == 0 {

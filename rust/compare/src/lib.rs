@@ -4,9 +4,11 @@
 #![forbid(unsafe_code)]
 
 mod mismatch;
+mod question;
 mod reports;
 mod tally;
 
 pub use mismatch::{hex, same, Asked};
+pub use question::{ask_library, Outcome};
 pub use reports::{Left, ReportCall, REPORT_CALLS};
 pub use tally::Tally;

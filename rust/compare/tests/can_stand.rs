@@ -1,8 +1,7 @@
-//! The question: the library's depth-first answer and the second program's, which goes through all
-//! settings, on all selections of small events and on some of large ones.
+//! The question: the library's answer and the second program's, which goes through all settings,
+//! on all selections of small events and on some of large ones.
 
-use compare::{same, Asked, Tally};
-use hainscope::calls;
+use compare::{ask_library, same, Asked, Outcome, Tally};
 use made::edges::edges;
 use made::events::{any, budget, extreme, LARGE, MIDDLE, SMALL};
 use made::plan::Plan;
@@ -13,16 +12,6 @@ use made::stream::made;
 use second::meaning::{question, Granted};
 use second::rows::Event;
 use second::selection::{names_above, selection_of};
-
-/// What a call gives: refusal number, place, stands.
-type Outcome = (u32, usize, u32);
-
-/// By the library, which must set both stands and place.
-fn library(table: &[u8], selection: u64) -> Outcome {
-    let (mut stands, mut place) = (0xDEAD, 0xBEEF);
-    let number = calls::can_stand(table, selection, &mut stands, &mut place);
-    (number, place, stands)
-}
 
 /// By the second program.
 fn second(table: &[u8], selection: u64) -> Outcome {
@@ -35,7 +24,7 @@ fn second(table: &[u8], selection: u64) -> Outcome {
 /// Compares an answer with the one expected and counts it.
 fn compare(seed: u64, table: &[u8], selection: u64, expected: Outcome, tally: &mut Tally) {
     let call = &format!("can_stand of selection {selection:#x}");
-    let found = library(table, selection);
+    let found = ask_library(table, selection);
     same(&Asked { call, seed, table }, found, expected);
     match found {
         (0, _, 0) => tally.add("cannot stand"),

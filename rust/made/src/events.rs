@@ -82,6 +82,13 @@ fn clause(random: &mut Random, role: u16, variables: u16, light: bool) -> Row {
 
 /// A linear row whose bound is near a sum that some setting has, or at an end of i32.
 fn linear(random: &mut Random, role: u16, variables: u16) -> Row {
+    let terms = terms(random, variables);
+    let bound = bound(random, &terms);
+    Row::Linear(role, bound, terms)
+}
+
+/// Terms of any variables: mostly a few, now and then none or 20.
+pub(crate) fn terms(random: &mut Random, variables: u16) -> Vec<(u16, i32)> {
     let most = if variables == 0 { 0 } else { 20 };
     let number = match random.below(12) {
         0 => 0,
@@ -100,16 +107,18 @@ fn linear(random: &mut Random, role: u16, variables: u16) -> Row {
         };
         (random.word(0, variables - 1), weight)
     };
-    let terms: Vec<(u16, i32)> = (0..number).map(term).collect();
-    let bound = bound(random, &terms);
-    Row::Linear(role, bound, terms)
+    (0..number).map(term).collect()
+}
+
+/// The sum that a setting gives to terms, variable i being at bit i.
+pub(crate) fn sum_at(terms: &[(u16, i32)], setting: u64) -> i32 {
+    let chosen = |(variable, _): &&(u16, i32)| setting >> *variable & 1 == 1;
+    terms.iter().filter(chosen).map(|(_, weight)| weight).sum()
 }
 
 /// A bound: the sum of some setting, or beside it, or an end of i32.
 fn bound(random: &mut Random, terms: &[(u16, i32)]) -> i32 {
-    let setting = random.bits();
-    let chosen = |(variable, _): &&(u16, i32)| setting >> *variable & 1 == 1;
-    let sum: i32 = terms.iter().filter(chosen).map(|(_, weight)| weight).sum();
+    let sum = sum_at(terms, random.bits());
     match random.below(24) {
         0 => i32::MIN,
         1 => i32::MAX,

@@ -32,7 +32,7 @@ pub fn planted(random: &mut Random, variables: u16, requests: u16, k: usize) -> 
 }
 
 /// A clause that is missed by one setting of the watched variables only.
-fn shuts_out(role: u16, setting: usize, watched: &[u16]) -> Row {
+pub(crate) fn shuts_out(role: u16, setting: usize, watched: &[u16]) -> Row {
     let literal = |(bit, variable): (usize, &u16)| match setting >> bit & 1 {
         1 => refuses(*variable),
         _ => wants(*variable),

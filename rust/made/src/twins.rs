@@ -27,7 +27,7 @@ pub fn twin(random: &mut Random, plan: &Plan) -> Plan {
 }
 
 /// A row with its variables renamed.
-fn renamed(row: &Row, names: &[u16]) -> Row {
+pub(crate) fn renamed(row: &Row, names: &[u16]) -> Row {
     let name = |variable: u16| names[usize::from(variable)];
     match row {
         Row::Clause(role, literals) => {
@@ -66,7 +66,7 @@ fn reworded(random: &mut Random, row: &Row) -> Row {
 
 /// A clause as a linear row, where its literals fit the 20 terms: the true literals are at least
 /// one exactly if wants and refusals taken with -1 and 1 sum to at most the refusals less one.
-fn as_linear(role: u16, literals: &[u16]) -> Row {
+pub(crate) fn as_linear(role: u16, literals: &[u16]) -> Row {
     let mut different = literals.to_vec();
     different.sort_unstable();
     different.dedup();

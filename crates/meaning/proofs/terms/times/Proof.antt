@@ -1,5 +1,5 @@
-use borrow.Author.Tests.{eq-eqb, ne-eqb}
-use Rattle.meaning.specs.Meaning.{valueOf}
+use Rattle.meaning.proofs.Sums.{counted-small, counted-by-products}
+use lib.Dec.{eqb}
 use native.Mathlib.Omega.{arith}
 use borrow.Author.Needs.{needs}
 use Rattle.meaning.proofs.terms.times.Statement.{statement}
@@ -7,20 +7,25 @@ use Rattle.meaning.proofs.terms.times.Tie as tie
 use Rattle.meaning.proofs.terms.times.Reads as reads
 use Rattle.meaning.proofs.terms.times.Lts as lts
 
--- src/terms.rt:36:9
+-- src/terms.rt:39:13
+cast-result : tie.Need-cast-result
+cast-result c = search needs
+
+-- src/terms.rt:39:5
+mul-result : tie.Need-mul-result
+mul-result c = omega (arith, counted-small (c .args .free) (eqb (c .args .value) 2) (eqb (c .args .value) 1) (c .pre))
+
+-- src/terms.rt:39:35
+cast-result-2 : tie.Need-cast-result-2
+cast-result-2 c = search needs
+
+-- src/terms.rt:39:5
+add-result : tie.Need-add-result
+add-result c = omega (arith, counted-small (c .args .free) (eqb (c .args .value) 2) (eqb (c .args .value) 1) (c .pre))
+
+-- src/terms.rt:33:1
 returns : tie.Need-returns
-unfolding valueOf
-returns c = rw (eq-eqb _ _ (c .if1 .taken))
-
--- src/terms.rt:39:9
-returns-2 : tie.Need-returns-2
-unfolding valueOf
-returns-2 c = rw (ne-eqb _ _ (c .before .if1 .left), eq-eqb _ _ (c .if2 .taken))
-
--- src/terms.rt:32:1
-returns-3 : tie.Need-returns-3
-unfolding valueOf
-returns-3 c = rw (ne-eqb _ _ (c .before .if1 .left), ne-eqb _ _ (c .if2 .left))
+returns c = counted-by-products (c .args .value) (c .args .free)
 
 pub times-spec : {M : Type 1} → statement M
-times-spec = tie.close (tie.spec returns returns-2 returns-3)
+times-spec = tie.close (tie.spec cast-result mul-result cast-result-2 add-result returns)

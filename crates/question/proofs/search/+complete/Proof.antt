@@ -50,7 +50,7 @@ complete-blame-requires t c κs = search needs
 -- src/search.rt:38:9
 complete-same-length : (t : ℕ) → complete-lts.Need-same-length (calls t) (complete-at t) complete.Post
 complete-same-length t c =
-    let narrow-unless-blind = c .before .before .before .before .before .before .before .narrow-unless-blind in
+    let narrow-unless-blind = c .before .before .before .before .before .before .before .before .narrow-unless-blind in
     narrow-unless-blind .kept .1 .0
 
 -- src/search.rt:38:9
@@ -59,14 +59,14 @@ complete-same-length-2 t c = refl
 
 -- src/search.rt:38:9
 complete-same-length-3 : (t : ℕ) → complete-lts.Need-same-length-3 (calls t) (complete-at t) complete.Post
-complete-same-length-3 t c = c .before .before .blame .kept .0
+complete-same-length-3 t c = c .before .before .blame .kept .1 .0
 
 -- src/search.rt:38:9
 complete-returns : (t : ℕ) → complete-lts.Need-returns (calls t) (complete-at t) complete.Post
 complete-returns t c =
-    let entry = c .before .before .before .before .before .before .before .before .before .before .before .before .before .before .args in
-    let narrow-unless-blind = c .before .before .before .before .before .before .before .narrow-unless-blind in
-    row-fails _ (entry .values .now) _ (entry .places .now) _ _ (narrow-unless-blind .ensures) (c .before .before .before .before .if1 .taken)
+    let entry = c .before .before .before .before .before .before .before .before .before .before .before .before .before .before .before .args in
+    let narrow-unless-blind = c .before .before .before .before .before .before .before .before .narrow-unless-blind in
+    row-fails _ (entry .values .now) _ (entry .places .now) _ _ (narrow-unless-blind .ensures) (c .before .before .before .before .before .if1 .taken)
 
 -- src/search.rt:41:9
 complete-same-length-4 : (t : ℕ) → complete-lts.Need-same-length-4 (calls t) (complete-at t) complete.Post
