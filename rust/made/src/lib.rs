@@ -5,6 +5,7 @@
 //! that is right, `events` plans of many shapes, `planted` plans with a known conflict, `twins`
 //! another table with the same standing selections, `damage` wrong tables, `edges` both sides of
 //! every limit with the number each must give, `sheet` the sample sheet, `stream` all of them mixed.
+//! `searched` has plans aimed at the search behind the question, each maker at one thing in it.
 #![deny(warnings, missing_docs)]
 #![forbid(unsafe_code)]
 
@@ -13,9 +14,11 @@ pub mod draft;
 pub mod edges;
 pub mod events;
 pub mod full;
+pub mod hostile;
 pub mod plan;
 pub mod planted;
 pub mod random;
+pub mod searched;
 pub mod sheet;
 pub mod stream;
 pub mod twins;
