@@ -15,7 +15,7 @@ fn main() {
     println!("cargo:rerun-if-changed={}", archive.display());
     assert!(
         archive.is_file(),
-        "{} is missing: `rt staticlib hainscope` makes it, HAINSCOPE_ARCHIVE_DIR names another folder",
+        "{} is missing: `bash rust/archive.sh` makes it, HAINSCOPE_ARCHIVE_DIR names another folder",
         archive.display()
     );
     println!("cargo:rustc-link-search=native={}", folder.display());

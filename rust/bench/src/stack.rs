@@ -2,7 +2,7 @@
 //! made, and what lost its paint was used.
 
 use hainscope::{Selection, Sought, Table};
-use made::plan::Plan;
+use made::hostile::sums::odd_by_requests;
 use made::planted::planted;
 use made::random::Random;
 use std::hint::black_box;
@@ -14,22 +14,32 @@ const AREA: usize = 64 * 1024;
 /// No call writes this byte everywhere.
 const PAINT: u8 = 0xA5;
 
-/// Prints the stack of one question and of one report, on an event of 64 requests and 20 variables.
+/// Prints the stack of questions and reports: on an event with a conflict, and on a hostile table,
+/// where the search goes deepest.
 pub fn print() {
-    let (plan, _) = planted(&mut Random::new(8), 20, 64, 8);
-    let bytes = Plan::table(&plan);
-    let table = Table::read(&bytes).expect("a plan's table is valid");
     println!("stack used below the caller, 64 requests, 20 variables:");
+    let (plan, _) = planted(&mut Random::new(8), 20, 64, 8);
+    of_table("conflict of 8", &plan.table());
+    of_table("hostile table", &odd_by_requests().table());
+}
+
+/// Prints the stack of one question and of both reports on a table.
+fn of_table(name: &str, bytes: &[u8]) {
+    let table = Table::read(bytes).expect("a plan's table is valid");
     let question = used(|| {
         black_box(table.can_stand(Selection::from_bits(u64::MAX)))
             .expect("a selection of the table");
     });
-    println!("one question {question:>36} bytes");
+    println!(
+        "{:<40} {question:>8} bytes",
+        format!("{name}, one question")
+    );
     for sought in [Sought::Conflict, Sought::Relaxation] {
         let report = used(|| {
             black_box(table.report(sought)).expect("room for a report");
         });
-        println!("{:<40} {report:>8} bytes", format!("{sought:?} by halving"));
+        let name = format!("{name}, {sought:?} by halving");
+        println!("{name:<40} {report:>8} bytes");
     }
 }
 
