@@ -1,5 +1,4 @@
 // The undecided variable that ranks highest, and the better of its values.
-ghost use mathlib.Core.Path.{_≡_};
 ghost use Prim.Native.Nat.{_+_, _<_, _≤_};
 ghost use lib.ListN.{length};
 ghost use Rattle.choice.specs.Chosen.{Chosen};

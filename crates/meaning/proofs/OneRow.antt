@@ -125,17 +125,6 @@ module _ (t : List ℕ) (at variables : ℕ) (asked : RowAsked t at variables) (
       let kept : LinearKept variables (asked .requests) t at = linear-kept variables (asked .requests) t at (asked .row-kept) other in
       record { whole = omega (arith, asked .row-kept .whole, kept .long); few = omega arith; named = rw size (kept .row-terms) }
 
-  -- where its literals or terms begin and end
-  pub clause-ends : u16At t (at + 2) ≡ 2 → (2 ≤ 2) × (at + 6 ≤ at + 4 + body) × (at + 4 + body ≤ length t)
-  clause-ends two =
-      let kept : ClauseKept variables (asked .requests) t at = clause-kept variables (asked .requests) t at (asked .row-kept) two in
-      (omega arith, omega (arith, kept .long), omega (arith, asked .row-kept .whole))
-
-  pub linear-ends : (u16At t (at + 2) ≡ 2 → ⊥) → (2 ≤ 6) × (at + 10 ≤ at + 4 + body) × (at + 4 + body ≤ length t)
-  linear-ends other =
-      let kept : LinearKept variables (asked .requests) t at = linear-kept variables (asked .requests) t at (asked .row-kept) other in
-      (omega arith, omega (arith, kept .long), omega (arith, asked .row-kept .whole))
-
   -- a clause
   pub clause-tested :
       u16At t (at + 2) ≡ 2 →

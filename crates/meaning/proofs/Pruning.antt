@@ -1,6 +1,6 @@
 -- Why the state of a row loses no setting: no completion meets a row in state 2, and every completion meets one in state 0.
 use Prim.Native.Nat.{ℕ, _/_, _%_, _<_, _≤_}
-use mathlib.Core.Path.{_≡_, refl, sym, ap, ap₂, _∙_}
+use mathlib.Core.Path.{_≡_, refl, ap, ap₂}
 use mathlib.Core.Bool.{Bool, true, false, not, cond, _&&_, _||_, false≢true}
 use mathlib.Core.List.{List, [], _∷_}
 use native.Mathlib.Omega.{arith}
@@ -9,7 +9,7 @@ use lib.IntN.{ℤ, pos, negsuc, _+ℤ_, _*ℤ_, *ℤ-one, *ℤ-zero, one}
 use lib.Signed.{leZ}
 use borrow.Author.Tests.{le-leb}
 use Rattle.table.specs.Rows.{Term, Row, clause, linear}
-use Rattle.meaning.specs.Meaning.{Setting, isOne, isTrue, anyOf, valueOf, product, sumOf, meets}
+use Rattle.meaning.specs.Meaning.{Setting, isOne, isTrue, valueOf, product, sumOf, meets}
 use Rattle.meaning.specs.HalfMade.{Values, isFree, isSet, Agrees}
 use Rattle.meaning.specs.States.{isDecidedTrue, mayBeTrue, mustBeTrue, negativeOf, positiveOf, atEnd, sumAtEnd, clauseState, linearState, rowState}
 use Rattle.meaning.proofs.Differences.{same-le, le-le, sums-le}

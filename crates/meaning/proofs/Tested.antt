@@ -19,11 +19,6 @@ pub either-more : (a b c d : Bool) → (a ≡ true → c ≡ true) → (b ≡ tr
 either-more true b c d f g e = rw (f refl)
 either-more false b c d f g e = rw (g e) (or-true c)
 
--- what one answer implies of another, where the other says no
-pub no-wherever-no : (a b : Bool) → (a ≡ true → b ≡ true) → b ≡ false → a ≡ false
-no-wherever-no true b h e = sym (h refl) ∙ e
-no-wherever-no false b h e = refl
-
 -- two answers that imply each other are equal
 pub equal-answers : (a b : Bool) → (a ≡ true → b ≡ true) → (b ≡ true → a ≡ true) → a ≡ b
 equal-answers true b f g = sym (f refl)
@@ -65,10 +60,6 @@ module _ {A : Type 0} where
   pub any-here : (test : A → Bool) (x : A) (xs : List A) → test x ≡ true → anyOf test (x ∷ xs) ≡ true
   unfolding anyOf
   any-here test x xs e = rw e
-
-  pub any-later : (test : A → Bool) (x : A) (xs : List A) → test x ≡ false → anyOf test (x ∷ xs) ≡ anyOf test xs
-  unfolding anyOf
-  any-later test x xs e = rw e
 
   pub any-more : (few many : A → Bool) → ((x : A) → few x ≡ true → many x ≡ true) → (xs : List A) → anyOf few xs ≡ true → anyOf many xs ≡ true
   unfolding anyOf

@@ -1,5 +1,4 @@
 use Rattle.meaning.proofs.Clauses.{literal-free, plain-one, plain-zero, negated-one, negated-zero}
-use native.Mathlib.Omega.{arith}
 use borrow.Author.Needs.{needs}
 use Rattle.meaning.proofs.literals.literal_state.Statement.{statement}
 use Rattle.meaning.proofs.literals.literal_state.Tie as tie

@@ -1,6 +1,4 @@
 use borrow.Author.Tests.{eq-eqb, ne-eqb}
-use native.Mathlib.Omega.{arith}
-use borrow.Author.Needs.{needs}
 use Rattle.meaning.proofs.literals.with_literal.Statement.{statement}
 use Rattle.meaning.proofs.literals.with_literal.Tie as tie
 use Rattle.meaning.proofs.literals.with_literal.Reads as reads

@@ -1,6 +1,5 @@
 use Rattle.meaning.proofs.OneRow.{row-long, clause-asked, linear-long, linear-asked, clause-tested, linear-tested}
 use mathlib.Core.Path.{sym, _∙_}
-use lib.ListN.{length}
 use native.Mathlib.Omega.{arith}
 use borrow.Author.Needs.{needs}
 use Rattle.meaning.proofs.rows.row_state.Statement.{statement}

@@ -8,7 +8,6 @@ use Rattle.table.specs.Lists.{every}
 use Rattle.table.specs.Limits.{termInRange}
 use Rattle.meaning.specs.States.{negativeOf, positiveOf}
 use native.Mathlib.Omega.{arith}
-use borrow.Author.Needs.{needs}
 use Rattle.meaning.proofs.terms.ends_of.Statement.{statement}
 use Rattle.meaning.proofs.terms.ends_of.Tie as tie
 use Rattle.meaning.proofs.terms.ends_of.Reads as reads

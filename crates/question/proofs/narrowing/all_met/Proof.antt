@@ -1,5 +1,4 @@
 use Rattle.question.proofs.Searching.{not-met, met-all}
-use native.Mathlib.Omega.{arith}
 use borrow.Author.Needs.{needs}
 use Rattle.question.proofs.narrowing.all_met.Statement.{statement}
 use Rattle.question.proofs.narrowing.all_met.Tie as tie

@@ -1,6 +1,5 @@
 use Rattle.question.specs.Rearranging.{exchanged}
 use mathlib.Core.Path.{refl}
-use native.Mathlib.Omega.{arith}
 use borrow.Author.Needs.{needs}
 use Rattle.question.proofs.narrowing.exchange.Statement.{statement}
 use Rattle.question.proofs.narrowing.exchange.Tie as tie

@@ -1,5 +1,4 @@
 use Rattle.question.proofs.OpenRows.{reduced-not}
-use native.Mathlib.Omega.{arith}
 use borrow.Author.Needs.{needs}
 use Rattle.question.proofs.narrowing.narrow_unless_blind.Statement.{statement}
 use Rattle.question.proofs.narrowing.narrow_unless_blind.Tie as tie

@@ -5,7 +5,6 @@ use lib.Seq.{length-take-le}
 use Rattle.table.specs.Limits.{mostVariables}
 use Rattle.meaning.proofs.HalfMade.{all-free}
 use Rattle.question.proofs.Answering.{answered}
-use native.Mathlib.Omega.{arith}
 use borrow.Author.Needs.{needs}
 use Rattle.question.proofs.search.can_stand.Statement.{statement}
 use Rattle.question.proofs.search.can_stand.Tie as tie
