@@ -108,6 +108,33 @@ module _ (bits : ℕ) (fits : bits < 4294967296) where
       go false true = rw one-times (refl, fits)
       go false false = rw zero-times (refl, omega arith)
 
+-- one term's ends, by the bits that count in each
+module _ (values : Values) (t : List ℕ) (at : ℕ) where
+  one-end : (side : ℤ → ℤ) → sumAtEnd side values (terms 1 t at) ≡ atEnd side values (termAt t at)
+  unfolding sumAtEnd terms
+  one-end side = +ℤ-idr (atEnd side values (termAt t at))
+
+  told-once : (side : ℤ → ℤ) (bits end : ℕ) → toZ w32 bits ≡ atEnd side values (termAt t at) → pos end ≡ toZ w32 bits +ℤ pos 2147483648 → pos end ≡ sumAtEnd side values (terms 1 t at) +ℤ pos 2147483648
+  told-once side bits end e f = rw (one-end side, ← e) f
+
+  pub term-told :
+      (least-bits most-bits least most : ℕ) →
+      toZ w32 least-bits ≡ atEnd negativeOf values (termAt t at) →
+      (pos least ≡ toZ w32 least-bits +ℤ pos 2147483648) × (least < 4294967296) →
+      toZ w32 most-bits ≡ atEnd positiveOf values (termAt t at) →
+      (pos most ≡ toZ w32 most-bits +ℤ pos 2147483648) × (most < 4294967296) →
+      EndsTold values (terms 1 t at) 1 least most
+  term-told least-bits most-bits least most e f g h =
+      record { least-told = told-once negativeOf least-bits least e (f .0); most-told = told-once positiveOf most-bits most g (h .0); small = (omega (arith, f .1), omega (arith, h .1)) }
+
+  -- and back
+  module _ (least most : ℕ) (told : EndsTold values (terms 1 t at) 1 least most) where
+    pub least-of-one : pos least ≡ atEnd negativeOf values (termAt t at) +ℤ pos 2147483648
+    least-of-one = rw (one-end negativeOf) at (told .least-told)
+
+    pub most-of-one : pos most ≡ atEnd positiveOf values (termAt t at) +ℤ pos 2147483648
+    most-of-one = rw (one-end positiveOf) at (told .most-told)
+
 -- a term in range names a variable
 term-names : (v : ℕ) (term : Term) → termInRange v term ≡ true → term .variable < v
 unfolding termInRange
@@ -139,22 +166,20 @@ module _ (side : ℤ → ℤ) (values : Values) (t : List ℕ) (from count : ℕ
   summed-start = record { so-far = pos 0; taken = 0; is = omega arith; counted = omega arith; rest = +ℤ-idl _ }
 
   pub summed-turn :
-      (at left total bits more : ℕ) →
+      (at left total more : ℕ) →
       0 < left →
-      toZ w32 bits ≡ atEnd side values (termAt t at) →
-      pos more ≡ toZ w32 bits +ℤ pos 2147483648 →
+      pos more ≡ atEnd side values (termAt t at) +ℤ pos 2147483648 →
       Summed side values t from count at left total →
       Summed side values t from count (at + 6) (left - 1) (total + more)
   unfolding sumAtEnd
-  summed-turn at left total bits more h e f s =
+  summed-turn at left total more h e s =
+      let end : ℤ = atEnd side values (termAt t at) in
       record {
-        so-far = s .so-far +ℤ toZ w32 bits;
+        so-far = s .so-far +ℤ end;
         taken = s .taken + 2147483648;
-        is = diff-add (s .so-far) (toZ w32 bits) total (s .taken) more 2147483648 (s .is) (diff-raised (toZ w32 bits) more 2147483648 f);
+        is = diff-add (s .so-far) end total (s .taken) more 2147483648 (s .is) (diff-raised end more 2147483648 e);
         counted = omega (arith, s .counted);
-        rest =
-            +ℤ-assoc (s .so-far) (toZ w32 bits) (sumAtEnd side values (terms (left - 1) t (at + 6)))
-            ∙ (rw (terms-turn left t at h, ← e) at (s .rest));
+        rest = +ℤ-assoc (s .so-far) end (sumAtEnd side values (terms (left - 1) t (at + 6))) ∙ (rw (terms-turn left t at h) at (s .rest));
       }
 
   -- no term is left: the sum is whole

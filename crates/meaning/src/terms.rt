@@ -9,9 +9,9 @@ ghost use lib.IntN.{pos, _+ℤ_};
 ghost use mir.Syntax.{w32};
 ghost use mir.Val.{toZ};
 ghost use Rattle.table.specs.Words.{u16At};
-ghost use Rattle.table.specs.Rows.{termAt, terms};
+ghost use Rattle.table.specs.Rows.{terms};
 ghost use Rattle.meaning.specs.Meaning.{valueOf};
-ghost use Rattle.meaning.specs.States.{atEnd, negativeOf, positiveOf, EndsTold, linearState};
+ghost use Rattle.meaning.specs.States.{EndsTold, linearState};
 ghost use Rattle.meaning.specs.WholeRows.{TermsAsked};
 use crate::half_made::UNDECIDED;
 use table::words::long_number;
@@ -39,30 +39,24 @@ fn times(value: u8, free: usize) -> usize
     free * (undecided as usize) + one as usize
 }
 
-// The 32 bits of the least that the term at a place can come to.
-fn least_bits(table: &[u8], at: usize, values: &[u8]) -> usize
-    requires { ⌜ (at + 5 < length (now table)) × (u16At (now table) at < length (now values)) ⌝ }
-    ensures { λ r. ⌜ (toZ w32 r ≡ atEnd negativeOf (now (values .entry)) (termAt (now (table .entry)) at)) × (r < 4294967296) ⌝ }
-{
-    let variable = number(table, at);
-    let bits = long_number(table, at + 2);
-    bits * times(values[variable], bits / HALF)
-}
-
-// The 32 bits of the most that it can come to.
-fn most_bits(table: &[u8], at: usize, values: &[u8]) -> usize
-    requires { ⌜ (at + 5 < length (now table)) × (u16At (now table) at < length (now values)) ⌝ }
-    ensures { λ r. ⌜ (toZ w32 r ≡ atEnd positiveOf (now (values .entry)) (termAt (now (table .entry)) at)) × (r < 4294967296) ⌝ }
-{
-    let variable = number(table, at);
-    let bits = long_number(table, at + 2);
-    bits * times(values[variable], 1 - bits / HALF)
-}
-
 // The least and the most that some terms can add up to, each with 2^31 more for every term.
 pub struct Ends {
     pub least: usize,
     pub most: usize,
+}
+
+// Both ends of what the one term at a place can come to: with its variable undecided, its weight counts in the least where it is negative
+// and in the most where it is not.
+fn ends_of_term(table: &[u8], at: usize, values: &[u8]) -> Ends
+    requires { ⌜ (at + 5 < length (now table)) × (u16At (now table) at < length (now values)) ⌝ }
+    ensures { λ r. ⌜ EndsTold (now (values .entry)) (terms 1 (now (table .entry)) at) 1 (r .least) (r .most) ⌝ }
+{
+    let variable = number(table, at);
+    let bits = long_number(table, at + 2);
+    let value = values[variable];
+    let least = raised(bits * times(value, bits / HALF));
+    let most = raised(bits * times(value, 1 - bits / HALF));
+    Ends { least, most }
 }
 
 // Both ends of what the `count` terms from `from` on can add up to.
@@ -75,8 +69,9 @@ pub fn ends_of(table: &[u8], from: usize, count: usize, values: &[u8]) -> Ends
     let mut at = from;
     let mut left = count;
     while 0 < left {
-        least = least + raised(least_bits(table, at, values));
-        most = most + raised(most_bits(table, at, values));
+        let term = ends_of_term(table, at, values);
+        least = least + term.least;
+        most = most + term.most;
         at = at + 6;
         left = left - 1;
     }

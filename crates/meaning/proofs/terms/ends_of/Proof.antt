@@ -1,4 +1,4 @@
-use Rattle.meaning.proofs.Sums.{term-named, Summed, summed-start, summed-turn, summed-end}
+use Rattle.meaning.proofs.Sums.{term-named, least-of-one, most-of-one, Summed, summed-start, summed-turn, summed-end}
 use mathlib.Core.Path.{_≡_}
 use mathlib.Core.Bool.{true}
 use Prim.Native.Nat.{_+_, _*_, _≤_}
@@ -12,9 +12,7 @@ use Rattle.meaning.proofs.terms.ends_of.Statement.{statement}
 use Rattle.meaning.proofs.terms.ends_of.Tie as tie
 use Rattle.meaning.proofs.terms.ends_of.Reads as reads
 use Rattle.meaning.proofs.terms.ends_of.Lts as lts
-use Rattle.meaning.proofs.terms.least_bits.Reads as least-bits-reads
-use Rattle.meaning.proofs.terms.most_bits.Reads as most-bits-reads
-use Rattle.meaning.proofs.terms.raised.Reads as raised-reads
+use Rattle.meaning.proofs.terms.ends_of_term.Reads as ends-of-term-reads
 
 abbrev Inv-loop : tie.InvT-loop
 Inv-loop table from count values least₀ most₀ at₀ left₀ least most at left = (at + 6 * left ≡ from + 6 * count) × (least + 4294967296 * left ≤ 4294967296 * count) × (most + 4294967296 * left ≤ 4294967296 * count) × (every (termInRange (length values)) (terms left table at) ≡ true) × Summed negativeOf values table from count at left least × Summed positiveOf values table from count at left most
@@ -22,60 +20,44 @@ Inv-loop table from count values least₀ most₀ at₀ left₀ least most at le
 abbrev μ-loop : tie.MeasureT-loop
 μ-loop table from count values least₀ most₀ at₀ left₀ least most at left = left
 
--- src/terms.rt:79:5
+-- src/terms.rt:71:5
 loop-holds : tie.Need-loop-holds Inv-loop μ-loop
 loop-holds c = (omega arith, omega arith, omega arith, c .before .before .pre .named, summed-start _ _ _ _ _, summed-start _ _ _ _ _)
 
--- src/terms.rt:80:32
-least-bits-requires : tie.Need-least-bits-requires Inv-loop μ-loop
-least-bits-requires c κs = (omega arith, term-named (c .before .before .before .before .args .table .now) (c .before .loop .at) (c .before .loop .left) (c .loop-test .taken) _ (c .before .loop .inv .3) .0)
+-- src/terms.rt:72:13
+ends-of-term-requires : tie.Need-ends-of-term-requires Inv-loop μ-loop
+ends-of-term-requires c κs = (omega arith, term-named (c .before .before .before .before .args .table .now) (c .before .loop .at) (c .before .loop .left) (c .loop-test .taken) _ (c .before .loop .inv .3) .0)
 
--- src/terms.rt:80:25
-raised-requires : tie.Need-raised-requires Inv-loop μ-loop
-raised-requires c κs = omega arith
-
--- src/terms.rt:80:17
+-- src/terms.rt:73:17
 add-least : tie.Need-add-least Inv-loop μ-loop
-add-least c = omega arith
+add-least c = omega (arith, c .before .ends-of-term .ensures .small)
 
--- src/terms.rt:81:30
-most-bits-requires : tie.Need-most-bits-requires Inv-loop μ-loop
-most-bits-requires c κs =
-    let entry = c .before .before .before .before .before .before .args in
-    let loop = c .before .before .before .loop in
-    (omega arith, term-named (entry .table .now) (loop .at) (loop .left) (c .before .before .loop-test .taken) _ (loop .inv .3) .0)
-
--- src/terms.rt:81:23
-raised-requires-2 : tie.Need-raised-requires-2 Inv-loop μ-loop
-raised-requires-2 c κs = omega arith
-
--- src/terms.rt:81:16
+-- src/terms.rt:74:16
 add-most : tie.Need-add-most Inv-loop μ-loop
-add-most c = omega arith
+add-most c = omega (arith, c .before .before .ends-of-term .ensures .small)
 
--- src/terms.rt:82:14
+-- src/terms.rt:75:14
 add-at : tie.Need-add-at Inv-loop μ-loop
 add-at c = omega arith
 
--- src/terms.rt:83:16
+-- src/terms.rt:76:16
 sub-left : tie.Need-sub-left Inv-loop μ-loop
 sub-left c = omega arith
 
--- src/terms.rt:79:5
+-- src/terms.rt:71:5
 loop-less : tie.Need-loop-less Inv-loop μ-loop
 loop-less c = omega arith
 
--- src/terms.rt:79:5
+-- src/terms.rt:71:5
 loop-again : tie.Need-loop-again Inv-loop μ-loop
 loop-again c =
-    let entry = c .before .before .before .before .before .before .before .before .args in
-    let loop = c .before .before .before .before .before .loop in
-    let loop-test = c .before .before .before .before .loop-test in
-    let least-bits = c .before .before .before .least-bits in
-    let raised = c .before .before .raised in
-    (omega arith, omega arith, omega arith, term-named (entry .table .now) (loop .at) (loop .left) (loop-test .taken) _ (loop .inv .3) .1, summed-turn _ _ _ _ _ (loop .at) (loop .left) (loop .least) (least-bits .result) (raised .result) (loop-test .taken) (least-bits .ensures .0) (raised .ensures .0) (loop .inv .4), summed-turn _ _ _ _ _ (loop .at) (loop .left) (loop .most) (c .before .most-bits .result) (c .raised2 .result) (loop-test .taken) (c .before .most-bits .ensures .0) (c .raised2 .ensures .0) (loop .inv .5))
+    let entry = c .before .before .before .before .before .before .before .args in
+    let loop = c .before .before .before .before .loop in
+    let loop-test = c .before .before .before .loop-test in
+    let ends-of-term = c .before .before .ends-of-term in
+    (omega arith, omega (arith, ends-of-term .ensures .small), omega (arith, ends-of-term .ensures .small), term-named (entry .table .now) (loop .at) (loop .left) (loop-test .taken) _ (loop .inv .3) .1, summed-turn _ _ _ _ _ (loop .at) (loop .left) (loop .least) (ends-of-term .result .least) (loop-test .taken) (least-of-one _ _ _ _ _ (ends-of-term .ensures)) (loop .inv .4), summed-turn _ _ _ _ _ (loop .at) (loop .left) (loop .most) (ends-of-term .result .most) (loop-test .taken) (most-of-one _ _ _ _ _ (ends-of-term .ensures)) (loop .inv .5))
 
--- src/terms.rt:71:1
+-- src/terms.rt:63:1
 returns : tie.Need-returns Inv-loop μ-loop
 returns c = record { least-told = summed-end negativeOf _ _ _ _ (c .before .loop .at) (c .before .loop .left) (c .before .loop .least) (c .loop-test .left) (c .before .loop .inv .4); most-told = summed-end positiveOf _ _ _ _ (c .before .loop .at) (c .before .loop .left) (c .before .loop .most) (c .loop-test .left) (c .before .loop .inv .5); small = (omega arith, omega arith) }
 
@@ -86,11 +68,8 @@ ends-of-spec =
     Inv-loop
     μ-loop
     loop-holds
-    least-bits-requires
-    raised-requires
+    ends-of-term-requires
     add-least
-    most-bits-requires
-    raised-requires-2
     add-most
     add-at
     sub-left
