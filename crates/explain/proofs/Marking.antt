@@ -1,5 +1,5 @@
 -- The chosen requests of an order, marked in a list by request number.
-use Prim.Native.Nat.{ℕ, zero, suc, _+_, _-_, _≤_, _<_}
+use Prim.Native.Nat.{ℕ, _+_, _≤_, _<_}
 use mathlib.Core.Path.{_≡_, refl, _∙_}
 use mathlib.Core.Bool.{Bool, true, false, _||_}
 use mathlib.Core.List.{List, [], _∷_}
@@ -15,13 +15,6 @@ use Rattle.table.proofs.Steps.{both}
 use Rattle.preference.specs.Selection.{Selection}
 use Rattle.preference.specs.Named.{named}
 use Rattle.explain.specs.Asking.{marked}
-
--- what holds of every element holds of the one at a place
-pub every-at : {A : Type 0} (test : A → Bool) (xs : List A) (d : A) (i : ℕ) → every test xs ≡ true → i < length xs → test (getD xs i d) ≡ true
-unfolding every
-every-at test [] d i e h = absurd (omega arith)
-every-at test (x ∷ xs) d zero e h = both (test x) (every test xs) e .0
-every-at test (x ∷ xs) d (suc i) e h = every-at test xs d i (both (test x) (every test xs) e .1) (omega arith)
 
 module _ (order : List ℕ) (X : Selection) (i : ℕ) (d : ℕ) (b : Bool) (same : length X ≡ length order) (more : i < length order) where
   -- the request at a place is named where it is chosen

@@ -1,4 +1,7 @@
 -- Lists of which every element, or at least one, passes a test.
+use Prim.Native.Nat.{ℕ, zero, suc, _<_}
+use native.Mathlib.Omega.{arith}
+use lib.ListN.{length, getD}
 use mathlib.Core.Path.{_≡_, refl, sym, ap₂, _∙_}
 use mathlib.Core.Bool.{Bool, true, false, _&&_, _||_, true≢false, or-true}
 use mathlib.Core.List.{List, [], _∷_, List·Memᴰ, List·Memᴰ·head, List·Memᴰ·tail, List·Memᴰ·not-nil}
@@ -56,6 +59,18 @@ module _ {A : Type 0} where
   unfolding every
   member-every test [] h = refl
   member-every test (x ∷ xs) h = together (h x (List·Memᴰ·head refl)) (member-every test xs (λ y m. h y (List·Memᴰ·tail m)))
+
+  -- a list passes whole exactly where the element at each place passes
+  pub every-at : (test : A → Bool) (xs : List A) (d : A) (i : ℕ) → every test xs ≡ true → i < length xs → test (getD xs i d) ≡ true
+  unfolding every
+  every-at test [] d i e h = absurd (omega arith)
+  every-at test (x ∷ xs) d zero e h = both (test x) (every test xs) e .0
+  every-at test (x ∷ xs) d (suc i) e h = every-at test xs d i (both (test x) (every test xs) e .1) (omega arith)
+
+  pub at-every : (test : A → Bool) (xs : List A) (d : A) → ((i : ℕ) → i < length xs → test (getD xs i d) ≡ true) → every test xs ≡ true
+  unfolding every
+  at-every test [] d h = refl
+  at-every test (x ∷ xs) d h = together (h 0 (omega arith)) (at-every test xs d (λ i below. h (suc i) (omega arith)))
 
   pub any-here : (test : A → Bool) (x : A) (xs : List A) → test x ≡ true → anyOf test (x ∷ xs) ≡ true
   unfolding anyOf

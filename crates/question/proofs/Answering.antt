@@ -1,8 +1,8 @@
 -- What the search finds is found of the rows that count, and from no decided variable on it answers the question.
-use Prim.Native.Nat.{ℕ, zero, suc, _<_}
+use Prim.Native.Nat.{ℕ, _<_}
 use mathlib.Core.Path.{_≡_, refl, sym, ap, _∙_}
 use mathlib.Core.Bool.{Bool, true, false}
-use mathlib.Core.List.{List, [], _∷_}
+use mathlib.Core.List.{List}
 use native.Mathlib.Omega.{arith}
 use lib.ListN.{length, getD, take}
 use lib.Seq.{getD-take, length-take-le}
@@ -10,29 +10,16 @@ use Rattle.table.specs.declared.record.Frame.{Frame}
 use Rattle.table.specs.Lists.{every}
 use Rattle.table.specs.Rows.{rowAt}
 use Rattle.table.specs.Kept.{firstRow, rowsOf}
-use Rattle.table.proofs.Steps.{both}
 use Rattle.meaning.specs.Meaning.{Setting, meets, meetsAll}
 use Rattle.meaning.specs.Stands.{stands, byRole}
 use Rattle.meaning.specs.HalfMade.{Values}
-use Rattle.meaning.proofs.Tested.{together, equal-answers}
+use Rattle.meaning.proofs.Tested.{every-at, at-every, equal-answers}
 use Rattle.meaning.proofs.Standing.{Passing, meets-stands, stands-meets}
 use Rattle.meaning.proofs.HalfMade.{free-agrees}
 use Rattle.question.specs.Counting.{Noted}
 use Rattle.question.specs.Completing.{Completion, Completed, MeetsFirst, MeetsCounting, Searched}
 use Rattle.question.proofs.Noting.{every-counting}
 use Rattle.question.proofs.Searching.{passing-too}
-
--- a list passes whole exactly where each entry passes
-every-at : (test : ℕ → Bool) (list : List ℕ) → every test list ≡ true → (i : ℕ) → i < length list → test (getD list i 0) ≡ true
-unfolding every
-every-at test [] e i h = absurd (omega arith)
-every-at test (x ∷ xs) e zero h = both (test x) (every test xs) e .0
-every-at test (x ∷ xs) e (suc i) h = every-at test xs (both (test x) (every test xs) e .1) i (omega arith)
-
-at-every : (test : ℕ → Bool) (list : List ℕ) → ((i : ℕ) → i < length list → test (getD list i 0) ≡ true) → every test list ≡ true
-unfolding every
-at-every test [] h = refl
-at-every test (x ∷ xs) h = together (h 0 (omega arith)) (at-every test xs (λ i below. h (suc i) (omega arith)))
 
 -- a search over the places of the rows that count is one over these rows
 module _ (t : List ℕ) (f : Frame) (chosen : List Bool) (places : List ℕ) (noted : ℕ) (counting : Noted (byRole chosen) (f .rows) t places noted) where
@@ -46,7 +33,7 @@ module _ (t : List ℕ) (f : Frame) (chosen : List Bool) (places : List ℕ) (no
     all-met : MeetsFirst t places noted setting → MeetsCounting t f chosen setting
     all-met met =
         sym same-met
-        ∙ at-every (λ place. meets setting (rowAt t place)) (take noted places)
+        ∙ at-every (λ place. meets setting (rowAt t place)) (take noted places) 0
         (λ i h. let below : i < noted = omega (arith, long-enough) in rw (getD-take noted places i 0 below) (met .each i below))
 
     each-met : MeetsCounting t f chosen setting → MeetsFirst t places noted setting
@@ -54,7 +41,7 @@ module _ (t : List ℕ) (f : Frame) (chosen : List Bool) (places : List ℕ) (no
         record {
           each = λ i h.
               rw (getD-take noted places i 0 h) at
-              (every-at (λ place. meets setting (rowAt t place)) (take noted places) (same-met ∙ met) i (omega (arith, long-enough)));
+              (every-at (λ place. meets setting (rowAt t place)) (take noted places) 0 i (same-met ∙ met) (omega (arith, long-enough)));
         }
 
   pub rows-searched :

@@ -14,7 +14,8 @@ use Rattle.table.specs.Limits.{within}
 use Rattle.table.proofs.Steps.{both}
 use Rattle.preference.specs.Named.{named}
 use Rattle.explain.specs.Asking.{marked}
-use Rattle.explain.proofs.Marking.{every-at, named-chosen, named-left-out, none-named}
+use Rattle.meaning.proofs.Tested.{every-at}
+use Rattle.explain.proofs.Marking.{named-chosen, named-left-out, none-named}
 use Prim.Native.Nat.{ℕ}
 use Rattle.explain.proofs.asking.mark.Statement.{statement}
 use Rattle.explain.proofs.asking.mark.Tie as tie
