@@ -4,15 +4,15 @@ ghost use lib.ListN.{length};
 ghost use Rattle.meaning.specs.WholeRows.{RowsAsked};
 ghost use Rattle.choice.specs.Chosen.{Chosen};
 use crate::blind::blind_below;
+use crate::notes::note_blind;
 use crate::scores::score_anew;
 use crate::variables::best_variable;
 use crate::variables::better_value;
 
-// The variable that is decided next, the value that is tried first, and how many levels below are decided blindly.
+// The variable that is decided next, and the value that is tried first.
 pub struct Choice {
     pub variable: usize,
     pub first: u8,
-    pub blind: usize,
 }
 
 // Scores anew, but not at a level that is decided blindly.
@@ -32,7 +32,8 @@ fn score_unless_blind(
     score_anew(table, places, count, values, notes);
 }
 
-// The choice at a level where the rows at the first `count` places are open, and `blind` levels more are decided blindly.
+// The choice at a level where the rows at the first `count` places are open, and `blind` levels more are decided blindly. How many of these
+// lie below the chosen variable is noted.
 pub fn choose(
     table: &[u8],
     places: &[u16],
@@ -48,9 +49,6 @@ pub fn choose(
     let variable = best_variable(values, notes);
     let first = better_value(notes, variable);
     let below = blind_below(values, notes, blind, count);
-    Choice {
-        variable,
-        first,
-        blind: below,
-    }
+    note_blind(notes, variable, below);
+    Choice { variable, first }
 }

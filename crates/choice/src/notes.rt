@@ -1,15 +1,19 @@
-// What the choice notes for itself while a search goes on: the score of each literal, and behind these how dear each variable has been. An
-// entry that is not there reads as 0, and nothing is written to it; sums wrap.
+// What the choice notes for itself while a search goes on: the score of each literal, behind these how dear each variable has been, and last
+// how many levels below the decision of each variable are decided blindly. An entry that is not there reads as 0, and nothing is written to
+// it; sums wrap.
 ghost use Prim.Native.Nat.{_<_};
 use meaning::half_made::is_undecided;
 use std::num::wrapping_add_u32;
 use table::limits::MOST_VARIABLES;
 
 // So many notes there are.
-pub const MOST_NOTES: usize = 3 * MOST_VARIABLES;
+pub const MOST_NOTES: usize = 4 * MOST_VARIABLES;
 
 // The scores come first, and then the dearness of variable 0.
 const DEARNESS: usize = 2 * MOST_VARIABLES;
+
+// Then the blind levels below variable 0.
+const BLIND: usize = 3 * MOST_VARIABLES;
 
 // The note at a place.
 fn note_at(notes: &[u32], at: usize) -> u32 {
@@ -33,10 +37,10 @@ pub fn add_score(notes: &mut [u32], literal: usize, more: u32) {
     }
 }
 
-// Sets the note at a place to 0.
-fn clear_note(notes: &mut [u32], at: usize) {
+// Sets the note at a place.
+fn set_note(notes: &mut [u32], at: usize, note: u32) {
     if at < notes.len() {
-        notes[at] = 0;
+        notes[at] = note;
     }
 }
 
@@ -44,9 +48,23 @@ fn clear_note(notes: &mut [u32], at: usize) {
 pub fn clear_scores(notes: &mut [u32]) {
     let mut next = 0;
     while next < DEARNESS {
-        clear_note(notes, next);
+        set_note(notes, next, 0);
         next = next + 1;
     }
+}
+
+// Notes how many levels below a variable's decision are decided blindly.
+pub fn note_blind(notes: &mut [u32], variable: usize, blind: usize)
+    requires { ⌜ variable < 65536 ⌝ }
+{
+    set_note(notes, BLIND + variable, (blind % 65536) as u32);
+}
+
+// How many levels below a variable's decision are decided blindly.
+pub fn blind_of(notes: &[u32], variable: usize) -> usize
+    requires { ⌜ variable < 65536 ⌝ }
+{
+    note_at(notes, BLIND + variable) as usize
 }
 
 // The score of a variable: what its two literals have together.

@@ -1,13 +1,13 @@
 -- The list by request number that the question is handed says what the order and its flags say.
-use Prim.Native.Nat.{ℕ, zero, suc, _+_, _≤_}
+use Prim.Native.Nat.{ℕ, zero, suc, _+_, _<_, _≤_}
 use mathlib.Core.Path.{_≡_, refl, _∙_}
 use mathlib.Core.Bool.{Bool, true, false, _||_, cond, or-false, or-true}
 use mathlib.Core.List.{List, [], _∷_}
 use native.Mathlib.Omega.{arith}
 use lib.Dec.{leb, ltb}
-use lib.ListN.{length, getD, take, set, replicate, length-set, length-replicate}
-use lib.Seq.{getD-set-same, getD-set-other, length-take-le}
-use borrow.Author.Tests.{le-leb}
+use lib.ListN.{length, getD, set, replicate}
+use lib.Seq.{getD-set-other}
+use borrow.Author.Tests.{le-leb, lt-ltb, ltb-true}
 use Rattle.table.specs.declared.record.Frame.{Frame}
 use Rattle.table.specs.Lists.{every, among}
 use Rattle.table.specs.Limits.{mostRequests, within}
@@ -18,55 +18,49 @@ use Rattle.question.specs.Asked.{Asked}
 use Rattle.meaning.proofs.Choices.{same-on-table}
 use Rattle.preference.specs.Selection.{Selection}
 use Rattle.preference.specs.Named.{named}
-use Rattle.explain.specs.Asking.{chosenBy, questionOf, Lent, NoneChosen, marked}
+use Rattle.explain.specs.Asking.{chosenBy, questionOf, Lent, marked}
 use Rattle.explain.proofs.Marking.{length-marked, marked-reads, every-named}
 
--- a number from 1 on is one from 0 on
-from-zero : (high : ℕ) (xs : List ℕ) → every (within 1 high) xs ≡ true → every (within 0 high) xs ≡ true
+-- a number from 1 on is one from 0 on, and stays below what is higher
+from-zero : (low high : ℕ) (xs : List ℕ) → low ≤ high → every (within 1 low) xs ≡ true → every (within 0 high) xs ≡ true
 unfolding every within
-from-zero high [] h = refl
-from-zero high (x ∷ xs) h =
-    let g = both (within 1 high x) (every (within 1 high) xs) h in
-    rw (le-leb 0 x (omega arith), both (leb 1 x) (ltb x high) (g .0) .1) (from-zero high xs (g .1))
+from-zero low high [] more h = refl
+from-zero low high (x ∷ xs) more h =
+    let g = both (within 1 low x) (every (within 1 low) xs) h in
+    let below : x < low = ltb-true x low (both (leb 1 x) (ltb x low) (g .0) .1) in
+    rw (le-leb 0 x (omega arith), lt-ltb x high (omega arith)) (from-zero low high xs more (g .1))
 
-module _ (t : List ℕ) (f : Frame) (order : List ℕ) (X : Selection) (chosen : List Bool) (lent : Lent t f order X) (nobody : NoneChosen f chosen) where
+-- a list by request number in which nobody is chosen
+abbrev nobody : List Bool
+nobody = replicate (mostRequests + 1) false
+
+no-flag : (many role : ℕ) → getD (replicate many false) role false ≡ false
+no-flag zero role = refl
+no-flag (suc many) zero = refl
+no-flag (suc many) (suc role) = no-flag many role
+
+module _ (t : List ℕ) (f : Frame) (order : List ℕ) (X : Selection) (lent : Lent t f order X) where
   -- the numbers of the order are places of the list
-  pub order-fits : every (within 0 (length (set chosen 0 true))) order ≡ true
-  order-fits = rw (length-set chosen 0 true, nobody .each) (from-zero (f .requests + 1) order (lent .numbers))
+  pub order-fits : every (within 0 (length (set nobody 0 true))) order ≡ true
+  order-fits = from-zero (f .requests + 1) (mostRequests + 1) order (omega (arith, lent .kept .few-requests)) (lent .numbers)
 
-  module _ (marks : List Bool) (e : marks ≡ marked (named order X) (set chosen 0 true)) where
-    reads : (role : ℕ) → getD marks role false ≡ (among role (named order X) || getD (set chosen 0 true) role false)
-    reads role = rw e (marked-reads (named order X) (set chosen 0 true) role (every-named _ order X order-fits))
+  module _ (marks : List Bool) (e : marks ≡ marked (named order X) (set nobody 0 true)) where
+    reads : (role : ℕ) → getD marks role false ≡ (among role (named order X) || getD (set nobody 0 true) role false)
+    reads role = rw e (marked-reads (named order X) (set nobody 0 true) role (every-named _ order X order-fits))
 
-    long : length marks ≡ f .requests + 1
-    long = rw e (length-marked (named order X) (set chosen 0 true) ∙ length-set chosen 0 true ∙ nobody .each)
-
-    host : getD (set chosen 0 true) 0 false ≡ true
-    host = getD-set-same chosen 0 true false (omega (arith, nobody .each))
+    long : length marks ≡ mostRequests + 1
+    long = rw e (length-marked (named order X) (set nobody 0 true))
 
     -- the question may be asked of it
     pub may-ask : Asked t f marks
-    may-ask = record { kept = lent .kept; each = long; host = reads 0 ∙ rw host (or-true (among 0 (named order X))) }
+    may-ask = record { kept = lent .kept; each = omega (arith, long, lent .kept .few-requests); host = reads 0 ∙ or-true (among 0 (named order X)) }
 
     -- and it is the question of the order
     pub same-question : (told : Bool) → told ≡ stands (rowsOf t f) (f .variables) (byRole marks) → told ≡ questionOf t f order X
     unfolding questionOf chosenBy
     same-question told h =
         h ∙ same-on-table (byRole marks) (chosenBy order X) t f (lent .kept)
-        (λ role more most. reads role ∙ rw (getD-set-other chosen 0 role true false (λ z. omega arith), nobody .nobody role) (or-false (among role (named order X))))
-
-no-flag : (n m role : ℕ) → getD (take n (replicate m false)) role false ≡ false
-no-flag zero m role = refl
-no-flag (suc n) zero role = refl
-no-flag (suc n) (suc m) zero = refl
-no-flag (suc n) (suc m) (suc role) = no-flag n m role
-
--- a fresh list has none chosen
-pub fresh-length : (f : Frame) → f .requests ≤ mostRequests → length (take (f .requests + 1) (replicate (mostRequests + 1) false)) ≡ f .requests + 1
-fresh-length f h = length-take-le (f .requests + 1) (replicate (mostRequests + 1) false) (rw length-replicate (omega arith))
-
-pub fresh : (f : Frame) → f .requests ≤ mostRequests → NoneChosen f (take (f .requests + 1) (replicate (mostRequests + 1) false))
-fresh f h = record { each = fresh-length f h; nobody = no-flag (f .requests + 1) (mostRequests + 1) }
+        (λ role more most. reads role ∙ rw (getD-set-other nobody 0 role true false (λ z. omega arith), no-flag (mostRequests + 1) role) (or-false (among role (named order X))))
 
 -- other flags in the same places may be asked too
 pub relent : {t : List ℕ} {f : Frame} {order : List ℕ} {X : Selection} (Y : Selection) → Lent t f order X → length Y ≡ length X → Lent t f order Y

@@ -1,9 +1,9 @@
 -- The question of a table and an order: can the chosen requests stand? (document 01, "Meaning")
-use Prim.Native.Nat.{ℕ, _+_, _≤_}
+use Prim.Native.Nat.{ℕ, _≤_}
 use mathlib.Core.Path.{_≡_}
-use mathlib.Core.Bool.{Bool, true, false}
+use mathlib.Core.Bool.{Bool, true}
 use mathlib.Core.List.{List, [], _∷_}
-use lib.ListN.{length, getD, set}
+use lib.ListN.{length, set}
 use Rattle.table.specs.declared.record.Frame.{Frame}
 use Rattle.table.specs.Lists.{among}
 use Rattle.table.specs.Limits.{mostRequests, orderInRange}
@@ -27,11 +27,6 @@ pub record Lent (t : List ℕ) (f : Frame) (order : List ℕ) (X : Selection) : 
   pub numbers : orderInRange (f .requests) order ≡ true
   pub few : length order ≤ mostRequests
   pub each : length X ≡ length order
-
--- a list with an entry for the host and for each request, none of them chosen
-pub record NoneChosen (f : Frame) (chosen : List Bool) : Type 0 where
-  pub each : length chosen ≡ f .requests + 1
-  pub nobody : (role : ℕ) → getD chosen role false ≡ false
 
 -- the list with the entries of these requests true
 unfoldable pub marked : List ℕ → List Bool → List Bool

@@ -12,6 +12,8 @@ use crate::halving::halve_conflict;
 use crate::halving::halve_relaxation;
 use crate::one_by_one::add_one_by_one;
 use crate::one_by_one::remove_one_by_one;
+use table::limits::MOST_REQUESTS;
+use table::limits::MOST_ROWS;
 use table::record::Frame;
 
 // Conflict or relaxation, by halving or one by one.
@@ -37,20 +39,27 @@ pub struct Outcome {
 }
 
 // The start: all requests are asked, and then the host rows alone.
-fn begin(table: &[u8], frame: Frame, order: &[u16], flags: &mut [bool]) -> Begun
+fn begin(
+    table: &[u8],
+    frame: Frame,
+    order: &[u16],
+    flags: &mut [bool],
+    chosen: &mut [bool; MOST_REQUESTS + 1],
+    places: &mut [u16; MOST_ROWS],
+) -> Begun
     requires { ⌜ Lent (now table) frame (now order) (now flags) ⌝ }
     ensures { λ r. ⌜ Begins (questionOf (now (table .entry)) frame (now (order .entry))) (length (now (flags .entry))) r (now (flags .exit)) ⌝ }
 {
     let count = flags.len();
     fill(flags, 0, count, true);
-    if ask(table, frame, order, flags) {
+    if ask(table, frame, order, flags, chosen, places) {
         return Begun::AllStand;
     }
     fill(flags, 0, count, false);
     if count == 0 {
         return Begun::HostFails(1);
     }
-    if ask(table, frame, order, flags) {
+    if ask(table, frame, order, flags, chosen, places) {
         return Begun::Open;
     }
     Begun::HostFails(2)
@@ -70,22 +79,50 @@ fn settle(method: Method, flags: &mut [bool])
 }
 
 // Works the method where all cannot stand and the host can. Returns the number of questions.
-fn work(method: Method, table: &[u8], frame: Frame, order: &[u16], flags: &mut [bool]) -> usize
+fn work(
+    method: Method,
+    table: &[u8],
+    frame: Frame,
+    order: &[u16],
+    flags: &mut [bool],
+    chosen: &mut [bool; MOST_REQUESTS + 1],
+    places: &mut [u16; MOST_ROWS],
+) -> usize
     requires { ⌜ Lent (now table) frame (now order) (now flags) × (now flags ≡ none (length (now flags))) × (0 < length (now flags)) ⌝ }
     ensures { λ r. ⌜ Tells (workedBy method (questionOf (now (table .entry)) frame (now (order .entry))) (length (now (flags .entry)))) (now (flags .exit)) r ⌝ }
 {
     let count = flags.len();
     match method {
         Method::ConflictByHalving => {
-            let worked = halve_conflict(table, frame, order, flags, 0, count, false);
+            let worked = halve_conflict(
+                table,
+                frame,
+                order,
+                flags,
+                chosen,
+                places,
+                0,
+                count,
+                false,
+            );
             worked.asked
         }
-        Method::ConflictOneByOne => remove_one_by_one(table, frame, order, flags),
+        Method::ConflictOneByOne => remove_one_by_one(table, frame, order, flags, chosen, places),
         Method::RelaxationByHalving => {
-            let worked = halve_relaxation(table, frame, order, flags, 0, count, false);
+            let worked = halve_relaxation(
+                table,
+                frame,
+                order,
+                flags,
+                chosen,
+                places,
+                0,
+                count,
+                false,
+            );
             worked.asked
         }
-        Method::RelaxationOneByOne => add_one_by_one(table, frame, order, flags),
+        Method::RelaxationOneByOne => add_one_by_one(table, frame, order, flags, chosen, places),
     }
 }
 
@@ -96,11 +133,13 @@ pub fn answer(
     frame: Frame,
     order: &[u16],
     flags: &mut [bool],
+    chosen: &mut [bool; MOST_REQUESTS + 1],
+    places: &mut [u16; MOST_ROWS],
 ) -> Outcome
     requires { ⌜ Lent (now table) frame (now order) (now flags) ⌝ }
     ensures { λ r. ⌜ Answers (answerBy method (questionOf (now (table .entry)) frame (now (order .entry))) (length (now (flags .entry)))) (length (now (flags .entry))) (now (flags .exit)) (r .status) (r .asked) ⌝ }
 {
-    let begun = begin(table, frame, order, flags);
+    let begun = begin(table, frame, order, flags, chosen, places);
     match begun {
         Begun::AllStand => {
             settle(method, flags);
@@ -111,7 +150,7 @@ pub fn answer(
         }
         Begun::HostFails(asked) => Outcome { status: 2, asked },
         Begun::Open => {
-            let asked = work(method, table, frame, order, flags);
+            let asked = work(method, table, frame, order, flags, chosen, places);
             Outcome {
                 status: 1,
                 asked: 2 + asked,

@@ -5,9 +5,10 @@ ghost use lib.ListN.{length};
 ghost use Rattle.table.specs.Lists.{every};
 ghost use Rattle.table.specs.Limits.{within};
 ghost use Rattle.preference.specs.Named.{named};
-ghost use Rattle.explain.specs.Asking.{marked, NoneChosen, Lent, questionOf};
+ghost use Rattle.explain.specs.Asking.{marked, Lent, questionOf};
 use question::search::can_stand;
 use table::limits::MOST_REQUESTS;
+use table::limits::MOST_ROWS;
 use table::record::Frame;
 
 // Marks the chosen requests of an order by their numbers.
@@ -27,22 +28,20 @@ fn mark(order: &[u16], flags: &[bool], chosen: &mut [bool])
     }
 }
 
-// Whether the chosen requests can stand, with a list by request number to work on that has none chosen yet.
-fn ask_with(table: &[u8], frame: Frame, order: &[u16], flags: &[bool], chosen: &mut [bool]) -> bool
-    requires { ⌜ Lent (now table) frame (now order) (now flags) × NoneChosen frame (now chosen) ⌝ }
-    ensures { λ r. ⌜ r ≡ questionOf (now (table .entry)) frame (now (order .entry)) (now (flags .entry)) ⌝ }
-{
-    chosen[0] = true;
-    mark(order, flags, chosen);
-    can_stand(table, frame, chosen)
-}
-
-// Whether the chosen requests of the order can stand.
-pub fn ask(table: &[u8], frame: Frame, order: &[u16], flags: &[bool]) -> bool
+// Whether the chosen requests of the order can stand. Two lists are lent to work on: who is chosen by number, and the places of rows.
+pub fn ask(
+    table: &[u8],
+    frame: Frame,
+    order: &[u16],
+    flags: &[bool],
+    chosen: &mut [bool; MOST_REQUESTS + 1],
+    places: &mut [u16; MOST_ROWS],
+) -> bool
     requires { ⌜ Lent (now table) frame (now order) (now flags) ⌝ }
     ensures { λ r. ⌜ r ≡ questionOf (now (table .entry)) frame (now (order .entry)) (now (flags .entry)) ⌝ }
 {
-    let entries = frame.requests + 1;
-    let mut chosen = [false; MOST_REQUESTS + 1];
-    ask_with(table, frame, order, flags, &mut chosen[..entries])
+    *chosen = [false; MOST_REQUESTS + 1];
+    chosen[0] = true;
+    mark(order, flags, chosen);
+    can_stand(table, frame, chosen, places)
 }

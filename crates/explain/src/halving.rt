@@ -5,6 +5,8 @@ ghost use Rattle.explain.specs.Asking.{Lent, questionOf};
 ghost use Rattle.explain.specs.Parts.{InGround, OutOfGround, ConflictWorked, RelaxationWorked, WholeTried};
 use crate::asking::ask;
 use crate::flags::fill;
+use table::limits::MOST_REQUESTS;
+use table::limits::MOST_ROWS;
 use table::record::Frame;
 
 // What working a part told: how many of its requests matter, and how many questions were asked.
@@ -21,12 +23,20 @@ fn questions(asking: bool) -> usize
 }
 
 // Whether the ground was to be asked, and cannot stand.
-fn ground_fails(table: &[u8], frame: Frame, order: &[u16], flags: &[bool], asking: bool) -> bool
+fn ground_fails(
+    table: &[u8],
+    frame: Frame,
+    order: &[u16],
+    flags: &[bool],
+    chosen: &mut [bool; MOST_REQUESTS + 1],
+    places: &mut [u16; MOST_ROWS],
+    asking: bool,
+) -> bool
     requires { ⌜ Lent (now table) frame (now order) (now flags) ⌝ }
     ensures { λ r. ⌜ r ≡ (asking && not (questionOf (now (table .entry)) frame (now (order .entry)) (now (flags .entry)))) ⌝ }
 {
     if asking {
-        return !ask(table, frame, order, flags);
+        return !ask(table, frame, order, flags, chosen, places);
     }
     false
 }
@@ -38,6 +48,8 @@ pub fn halve_conflict(
     frame: Frame,
     order: &[u16],
     flags: &mut [bool],
+    chosen: &mut [bool; MOST_REQUESTS + 1],
+    places: &mut [u16; MOST_ROWS],
     from: usize,
     count: usize,
     asking: bool,
@@ -45,7 +57,7 @@ pub fn halve_conflict(
     requires { ⌜ Lent (now table) frame (now order) (now flags) × InGround from count (now flags) ⌝ }
     ensures { λ r. ⌜ ConflictWorked (questionOf (now (table .entry)) frame (now (order .entry))) from count asking (now (flags .entry)) (now (flags .exit)) (r .found) (r .asked) ⌝ }
 {
-    if ground_fails(table, frame, order, flags, asking) {
+    if ground_fails(table, frame, order, flags, chosen, places, asking) {
         return Worked { found: 0, asked: 1 };
     }
     let asked = questions(asking);
@@ -54,10 +66,13 @@ pub fn halve_conflict(
         return Worked { found: 1, asked };
     }
     let half = count / 2;
+    let cut = from + half;
+    let rest = count - half;
     fill(flags, from, half, true);
-    let second = halve_conflict(table, frame, order, flags, from + half, count - half, true);
+    let second = halve_conflict(table, frame, order, flags, chosen, places, cut, rest, true);
     fill(flags, from, half, false);
-    let first = halve_conflict(table, frame, order, flags, from, half, 0 < second.found);
+    let more = 0 < second.found;
+    let first = halve_conflict(table, frame, order, flags, chosen, places, from, half, more);
     Worked {
         found: second.found + first.found,
         asked: asked + (second.asked + first.asked),
@@ -71,6 +86,8 @@ fn stands_whole(
     frame: Frame,
     order: &[u16],
     flags: &mut [bool],
+    chosen: &mut [bool; MOST_REQUESTS + 1],
+    places: &mut [u16; MOST_ROWS],
     from: usize,
     count: usize,
     asking: bool,
@@ -82,7 +99,7 @@ fn stands_whole(
         return false;
     }
     fill(flags, from, count, true);
-    if ask(table, frame, order, flags) {
+    if ask(table, frame, order, flags, chosen, places) {
         return true;
     }
     fill(flags, from, count, false);
@@ -96,6 +113,8 @@ pub fn halve_relaxation(
     frame: Frame,
     order: &[u16],
     flags: &mut [bool],
+    chosen: &mut [bool; MOST_REQUESTS + 1],
+    places: &mut [u16; MOST_ROWS],
     from: usize,
     count: usize,
     asking: bool,
@@ -103,7 +122,17 @@ pub fn halve_relaxation(
     requires { ⌜ Lent (now table) frame (now order) (now flags) × OutOfGround from count (now flags) ⌝ }
     ensures { λ r. ⌜ RelaxationWorked (questionOf (now (table .entry)) frame (now (order .entry))) from count asking (now (flags .entry)) (now (flags .exit)) (r .found) (r .asked) ⌝ }
 {
-    if stands_whole(table, frame, order, flags, from, count, asking) {
+    if stands_whole(
+        table,
+        frame,
+        order,
+        flags,
+        chosen,
+        places,
+        from,
+        count,
+        asking,
+    ) {
         return Worked { found: 0, asked: 1 };
     }
     let asked = questions(asking);
@@ -111,16 +140,11 @@ pub fn halve_relaxation(
         return Worked { found: 1, asked };
     }
     let half = count / 2;
-    let first = halve_relaxation(table, frame, order, flags, from, half, true);
-    let second = halve_relaxation(
-        table,
-        frame,
-        order,
-        flags,
-        from + half,
-        count - half,
-        0 < first.found,
-    );
+    let cut = from + half;
+    let rest = count - half;
+    let first = halve_relaxation(table, frame, order, flags, chosen, places, from, half, true);
+    let more = 0 < first.found;
+    let second = halve_relaxation(table, frame, order, flags, chosen, places, cut, rest, more);
     Worked {
         found: first.found + second.found,
         asked: asked + (first.asked + second.asked),

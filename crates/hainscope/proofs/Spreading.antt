@@ -1,15 +1,16 @@
 -- The bits of a selection, spread over the requests one by one.
 use Prim.Native.Nat.{ℕ, zero, suc, _+_, _-_, _%_, _/_, _≤_, _<_}
 use mathlib.Core.Path.{_≡_, refl, sym, ap, ap₂, _∙_}
-use mathlib.Core.Bool.{Bool, true}
+use mathlib.Core.Bool.{Bool, true, false}
 use mathlib.Core.List.{List, [], _∷_, _++_, append-nil}
 use native.Mathlib.Omega.{arith}
 use native.Mathlib.Numerals.{add-one}
 use lib.Dec.{eqb}
-use lib.ListN.{length, take, set, length-set, drop-of-length-le}
-use lib.Seq.{sets, sets-eq}
+use lib.ListN.{length, take, set, replicate, length-set, length-replicate, drop-of-length-le}
+use lib.Seq.{sets, sets-eq, length-take-le}
 use borrow.Author.Tests.{eq-eqb, ne-eqb}
 use Rattle.table.specs.declared.record.Frame.{Frame}
+use Rattle.table.specs.Limits.{mostRequests}
 use Rattle.table.specs.Kept.{Kept, rowsOf}
 use Rattle.meaning.specs.Stands.{stands, byRole}
 use Rattle.question.specs.Asked.{Asked}
@@ -73,9 +74,13 @@ module _ (t : List ℕ) (f : Frame) (selection : ℕ) (X Y : List Bool) (kept : 
 
   -- the question may be asked
   pub may-ask : Asked t f Y
-  may-ask = record { kept = kept; each = rw flags-are (ap suc (length-bits (f .requests) selection) ∙ sym (add-one (f .requests))); host = rw flags-are }
+  may-ask = record { kept = kept; each = rw flags-are (omega (arith, length-bits (f .requests) selection)); host = rw flags-are }
 
   -- and its answer is the selection's
   pub told-is : rest ≡ 0 → (answer : Bool) → answer ≡ stands (rowsOf t f) (f .variables) (byRole Y) → Told answer ≡ askedOf t f selection
   unfolding askedOf namesAbove canStand
   told-is z answer e = rw (← rest-of, eq-eqb rest 0 z) (ap Told (rw flags-are at e))
+
+-- the list that it is spread over has an entry for the host and for each request
+pub entries-length : (f : Frame) → f .requests ≤ mostRequests → length (take (f .requests + 1) (replicate (mostRequests + 1) false)) ≡ f .requests + 1
+entries-length f h = length-take-le (f .requests + 1) (replicate (mostRequests + 1) false) (rw length-replicate (omega arith))

@@ -15,6 +15,7 @@ use explain::answers::Method;
 use explain::answers::answer;
 use report::write;
 use table::limits::MOST_REQUESTS;
+use table::limits::MOST_ROWS;
 use table::reading::Reading;
 use table::reading::read;
 use table::record::Frame;
@@ -54,7 +55,7 @@ fn record_kind(method: Method) -> u16
     }
 }
 
-// Works a method and writes its record, with an order and flags to work on.
+// Works a method and writes its record, with lists to work on: the order, its flags, and the two that a question needs.
 fn write_answer(
     method: Method,
     table: &[u8],
@@ -62,13 +63,15 @@ fn write_answer(
     part: &mut [u8],
     order: &mut [u16],
     flags: &mut [bool],
+    chosen: &mut [bool; MOST_REQUESTS + 1],
+    places: &mut [u16; MOST_ROWS],
 ) -> usize
     requires { ⌜ Ready (now table) frame (now part) × (length (now order) ≡ frame .requests) × (length (now flags) ≡ frame .requests) ⌝ }
     ensures { λ r. ⌜ RecordWritten method (now (table .entry)) frame (now (part .entry)) (now (part .exit)) r ⌝ }
 {
     let from = frame.order + 4;
     load(table, from, order);
-    let outcome = answer(method, table, frame, order, flags);
+    let outcome = answer(method, table, frame, order, flags, chosen, places);
     let status = outcome.status as u16;
     let asked = outcome.asked as u32;
     write(part, record_kind(method), status, asked, order, flags)
@@ -82,6 +85,8 @@ fn write_record(method: Method, table: &[u8], frame: Frame, part: &mut [u8]) -> 
     let requests = frame.requests;
     let mut order = [0u16; MOST_REQUESTS];
     let mut flags = [false; MOST_REQUESTS];
+    let mut chosen = [false; MOST_REQUESTS + 1];
+    let mut places = [0; MOST_ROWS];
     write_answer(
         method,
         table,
@@ -89,6 +94,8 @@ fn write_record(method: Method, table: &[u8], frame: Frame, part: &mut [u8]) -> 
         part,
         &mut order[..requests],
         &mut flags[..requests],
+        &mut chosen,
+        &mut places,
     )
 }
 

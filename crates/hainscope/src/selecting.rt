@@ -6,6 +6,7 @@ ghost use Rattle.table.specs.Kept.{Kept};
 ghost use Rattle.hainscope.specs.Written.{Spread, askedOf};
 use question::search::can_stand;
 use table::limits::MOST_REQUESTS;
+use table::limits::MOST_ROWS;
 use table::record::Frame;
 
 // What asking about a selection tells: it names a request above N, or whether it can stand.
@@ -31,8 +32,14 @@ fn spread(selection: u64, chosen: &mut [bool]) -> u64
     rest
 }
 
-// Asks about a selection, with a list by request number to work on.
-fn ask_spread(table: &[u8], frame: Frame, selection: u64, chosen: &mut [bool]) -> Asked
+// Asks about a selection, with a list by request number and a list of places to work on.
+fn ask_spread(
+    table: &[u8],
+    frame: Frame,
+    selection: u64,
+    chosen: &mut [bool],
+    places: &mut [u16; MOST_ROWS],
+) -> Asked
     requires { ⌜ Kept (now table) frame × (length (now chosen) ≡ frame .requests + 1) ⌝ }
     ensures { λ r. ⌜ r ≡ askedOf (now (table .entry)) frame selection ⌝ }
 {
@@ -41,7 +48,7 @@ fn ask_spread(table: &[u8], frame: Frame, selection: u64, chosen: &mut [bool]) -
     if rest != 0 {
         return Asked::TooMuch;
     }
-    Asked::Told(can_stand(table, frame, chosen))
+    Asked::Told(can_stand(table, frame, chosen, places))
 }
 
 // Whether a selection of an accepted table's requests can stand, or that it names a request above N.
@@ -51,5 +58,6 @@ pub fn ask_selection(table: &[u8], frame: Frame, selection: u64) -> Asked
 {
     let entries = frame.requests + 1;
     let mut chosen = [false; MOST_REQUESTS + 1];
-    ask_spread(table, frame, selection, &mut chosen[..entries])
+    let mut places = [0; MOST_ROWS];
+    ask_spread(table, frame, selection, &mut chosen[..entries], &mut places)
 }

@@ -66,14 +66,47 @@ fewer [] variable value free one = absurd (false≢true free)
 fewer (x ∷ more) zero value free one = rw (free, one) (omega arith)
 fewer (x ∷ more) (suc variable) value free one = omega (arith, fewer more variable value free one)
 
-module _ (values : Values) (variable : ℕ) (inside : variable < length values) (free : isFree values variable ≡ true) where
-  -- fewer variables are undecided once it is decided, and so where another value is tried
-  pub fewer-undecided : (value many : ℕ) → value ≤ 1 → undecided values ≡ many → undecided (set values variable value) < many
-  fewer-undecided value many h e = omega (arith, fewer values variable value free (ne-eqb value 2 (λ e. omega arith)))
+one-at-most : (is-it : Bool) → valueOf is-it ≤ 1
+unfolding valueOf
+one-at-most true = omega arith
+one-at-most false = omega arith
 
-  pub fewer-again :
-      (now-values : Values) (value other many : ℕ) → now-values ≡ set values variable other → value ≤ 1 → undecided values ≡ many → undecided (set now-values variable value) < many
-  fewer-again now-values value other many same h e = rw (same, set-set values variable other value) (fewer-undecided value many h e)
+-- at most all are undecided
+pub undecided-most : (values : Values) → undecided values ≤ length values
+unfolding undecided
+undecided-most [] = omega arith
+undecided-most (x ∷ more) = omega (arith, one-at-most (eqb x 2), undecided-most more)
+
+-- one more at most where one variable is changed
+pub undecided-changed : (values : Values) (variable value : ℕ) → undecided (set values variable value) ≤ suc (undecided values)
+unfolding undecided
+undecided-changed [] variable value = omega arith
+undecided-changed (x ∷ more) zero value = omega (arith, one-at-most (eqb value 2))
+undecided-changed (x ∷ more) (suc variable) value = omega (arith, undecided-changed more variable value)
+
+-- as many where a decided variable is given another value
+pub undecided-turned : (values : Values) (variable value : ℕ) → getD values variable 0 ≤ 1 → value ≤ 1 → undecided (set values variable value) ≡ undecided values
+unfolding undecided
+undecided-turned [] variable value old new = refl
+undecided-turned (x ∷ more) zero value old new = rw (ne-eqb value 2 (λ e. omega arith), ne-eqb x 2 (λ e. omega arith))
+undecided-turned (x ∷ more) (suc variable) value old new = rw (undecided-turned more variable value old new)
+
+-- a setting has the decided values also where one is taken back
+pub agrees-freed : (values : Values) (variable : ℕ) (setting : Setting) → variable < length values → Agrees values setting → Agrees (set values variable 2) setting
+agrees-freed values variable setting inside agrees = record { each = simp length-set (agrees .each); decided = λ other h. go other h (eqb other variable) refl }
+  where
+    go : (other : ℕ) → isFree (set values variable 2) other ≡ false → (here : Bool) → eqb other variable ≡ here → getD setting other false ≡ isSet (set values variable 2) other
+    go other h true p =
+        let s : other ≡ variable = eqb-true other variable p in
+        absurd (true≢false (rw (s, getD-set-same values variable 2 0 inside) at h))
+    go other h false p =
+        let same : getD (set values variable 2) other 0 ≡ getD values other 0 = getD-set-other values variable other 2 0 (eqb-false other variable p) in
+        rw same (agrees .decided other (rw same at h))
+
+module _ (values : Values) (variable : ℕ) (inside : variable < length values) (free : isFree values variable ≡ true) where
+  -- fewer variables are undecided once it is decided
+  pub fewer-undecided : (value : ℕ) → value ≤ 1 → undecided (set values variable value) < undecided values
+  fewer-undecided value h = fewer values variable value free (ne-eqb value 2 (λ e. omega arith))
 
   -- a setting with one decided value more has the decided values
   pub agrees-without : (value : ℕ) (setting : Setting) → Agrees (set values variable value) setting → Agrees values setting

@@ -2,10 +2,10 @@
 use Prim.Native.Nat.{ℕ, _<_}
 use mathlib.Core.Path.{_≡_, refl, sym, ap, _∙_}
 use mathlib.Core.Bool.{Bool, true, false}
-use mathlib.Core.List.{List}
+use mathlib.Core.List.{List, _++_}
 use native.Mathlib.Omega.{arith}
 use lib.ListN.{length, getD, take}
-use lib.Seq.{getD-take, length-take-le}
+use lib.Seq.{getD-take, length-take-le, take-length, take-append-seam}
 use Rattle.table.specs.declared.record.Frame.{Frame}
 use Rattle.table.specs.Lists.{every}
 use Rattle.table.specs.Rows.{rowAt}
@@ -17,9 +17,13 @@ use Rattle.meaning.proofs.Tested.{every-at, at-every, equal-answers}
 use Rattle.meaning.proofs.Standing.{Passing, meets-stands, stands-meets}
 use Rattle.meaning.proofs.HalfMade.{free-agrees}
 use Rattle.question.specs.Counting.{Noted}
-use Rattle.question.specs.Completing.{Completion, Completed, MeetsFirst, MeetsCounting, Searched}
+use Rattle.question.specs.Completing.{Completion, Completed, MeetsFirst, MeetsCounting}
 use Rattle.question.proofs.Noting.{every-counting}
-use Rattle.question.proofs.Searching.{passing-too}
+use Rattle.question.proofs.Seeing.{passing-too}
+
+-- the search works on a copy of the values
+pub copied : (values work rest : Values) → work ≡ take (length values) values ++ rest → take (length values) work ≡ values
+copied values work rest e = rw (e, take-length values) (take-append-seam values rest)
 
 -- a search over the places of the rows that count is one over these rows
 module _ (t : List ℕ) (f : Frame) (chosen : List Bool) (places : List ℕ) (noted : ℕ) (counting : Noted (byRole chosen) (f .rows) t places noted) where
@@ -44,19 +48,15 @@ module _ (t : List ℕ) (f : Frame) (chosen : List Bool) (places : List ℕ) (no
               (every-at (λ place. meets setting (rowAt t place)) (take noted places) 0 i (same-met ∙ met) (omega (arith, long-enough)));
         }
 
-  pub rows-searched :
-      (after : List ℕ) (values now-values : Values) (answer : Bool) →
-      Searched t noted places after values now-values answer →
-      Completed (MeetsCounting t f chosen) values now-values answer
-  rows-searched after values now-values answer searched =
+  pub rows-searched : (values : Values) (answer : Bool) → Completed (MeetsFirst t places noted) values answer → Completed (MeetsCounting t f chosen) values answer
+  rows-searched values answer searched =
       record {
-        restored = searched .completed .restored;
-        found = λ good. passing-too (λ setting _. all-met setting) (searched .completed .found good);
-        none = λ bad found. searched .completed .none bad (passing-too (λ setting _. each-met setting) found);
+        found = λ good. passing-too (λ setting _. all-met setting) (searched .found good);
+        none = λ bad found. searched .none bad (passing-too (λ setting _. each-met setting) found);
       }
 
 -- from no decided variable on it answers the question
-module _ (t : List ℕ) (f : Frame) (chosen : List Bool) (values now-values : Values) (answer : Bool) (long : length values ≡ f .variables) (free : (other : ℕ) → other < length values → getD values other 0 ≡ 2) (done : Completed (MeetsCounting t f chosen) values now-values answer) where
+module _ (t : List ℕ) (f : Frame) (chosen : List Bool) (values : Values) (answer : Bool) (long : length values ≡ f .variables) (free : (other : ℕ) → other < length values → getD values other 0 ≡ 2) (done : Completed (MeetsCounting t f chosen) values answer) where
   yes-stands : answer ≡ true → stands (rowsOf t f) (f .variables) (byRole chosen) ≡ true
   yes-stands e =
       let found : Completion (MeetsCounting t f chosen) values = done .found e in

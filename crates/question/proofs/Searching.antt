@@ -1,154 +1,245 @@
--- Each way out of the search for a completion.
-use Prim.Native.Nat.{ℕ, _-_, _<_, _≤_}
-use mathlib.Core.Path.{_≡_, refl, ap, _∙_}
-use mathlib.Core.Logic.{⊎-elim}
-use mathlib.Core.Bool.{Bool, true, false, true≢false, false≢true}
-use mathlib.Core.List.{List}
+-- How far the search has come: the branch at hand, and those still to be tried, miss no completion.
+use Prim.Native.Nat.{ℕ, zero, suc, _+_, _-_, _<_, _≤_}
+use mathlib.Core.Path.{_≡_, refl, sym, ap, _∙_}
+use mathlib.Core.Logic.{_⊎_, inl, inr, ⊎-elim}
+use mathlib.Core.Bool.{Bool, true, false, cond}
+use mathlib.Core.List.{List, [], _∷_}
 use native.Mathlib.Omega.{arith}
-use lib.Dec.{eqb, ltb}
-use lib.ListN.{length, getD, set}
-use lib.Seq.{set-set}
-use borrow.Author.Tests.{ltb-true, ltb-false}
+use lib.Dec.{eqb}
+use lib.ListN.{length, getD, set, length-set}
+use lib.Seq.{set-set, getD-set-same}
+use borrow.Author.Tests.{eq-eqb, ne-eqb}
 use Rattle.meaning.specs.Meaning.{Setting}
-use Rattle.meaning.specs.HalfMade.{Values, isFree, Agrees}
-use Rattle.meaning.proofs.HalfMade.{settled, settled-agrees, agrees-without, agrees-with, set-back, one-or-other}
-use Rattle.meaning.proofs.Pruning.{decided-meets}
-use Rattle.question.specs.Rearranging.{Among, Rearranged}
-use Rattle.question.specs.Completing.{Completion, Completed, MeetsAt, MeetsFirst, Searched}
-use Rattle.question.specs.Narrowing.{Reduced, Narrowed}
-use Rattle.question.proofs.Rearranging.{rearranged-twice, rearranged-within}
+use Rattle.meaning.specs.HalfMade.{Values, isFree, Agrees, undecided}
+use Rattle.meaning.proofs.HalfMade.{agrees-freed, agrees-with, agrees-without, set-back, one-or-other, undecided-most, undecided-changed, undecided-turned, fewer-undecided}
+use Rattle.question.specs.Rearranging.{Rearranged}
+use Rattle.question.specs.Completing.{Completion, MeetsFirst}
+use Rattle.question.specs.Looking.{LeftOpen}
+use Rattle.question.specs.Trail.{Decided}
+use Rattle.question.specs.declared.looking.Decision.{Decision}
+use Rattle.question.proofs.Rearranging.{rearranged-not, rearranged-twice, rearranged-within}
+use Rattle.question.proofs.Seeing.{passing-too, met-before, met-after, met-whole}
+use Rattle.question.proofs.Branches.{nodes, ahead, openIn, Decides, Waits, Trail, Pending, trail-moved, trail-fewer, trail-agrees, trail-length}
 
--- a completion stays one for a test that passes where the other does
-pub passing-too : {One Other : Setting → Type 0} {values : Values} → ((setting : Setting) → Agrees values setting → One setting → Other setting) → Completion One values → Completion Other values
-passing-too more found = record { setting = found .setting; agrees = found .agrees; passes = more (found .setting) (found .agrees) (found .passes) }
+-- two trees over fewer variables have fewer nodes
+some-nodes : (variables : ℕ) → 1 ≤ nodes variables
+unfolding nodes
+some-nodes zero = omega arith
+some-nodes (suc variables) = omega arith
 
--- rows that are met in one arrangement are met in another
-module _ (t : List ℕ) (count : ℕ) (before after : List ℕ) (moved : Rearranged count before after) where
-  back : (setting : Setting) → MeetsFirst t after count setting → MeetsFirst t before count setting
-  back setting met = record { each = λ i h. let x : Among after count (getD before i 0) = moved .none-lost i h in rw (← x .there) (met .each (x .place) (x .below)) }
+pub two-trees : (few many : ℕ) → few < many → nodes few + nodes few < nodes many
+unfolding nodes
+two-trees few zero h = absurd (omega arith)
+two-trees zero (suc many) h = omega (arith, some-nodes many)
+two-trees (suc few) (suc many) h = omega (arith, two-trees few many (omega arith))
 
-  forth : (setting : Setting) → MeetsFirst t before count setting → MeetsFirst t after count setting
-  forth setting met = record { each = λ i h. let x : Among before count (getD after i 0) = moved .none-new i h in rw (← x .there) (met .each (x .place) (x .below)) }
+module _ (t start : List ℕ) (noted : ℕ) (base : Values) where
+  -- the rows at the first `count` places decide for the branch at hand, and each completion lies in it or in one that is still to be tried
+  pub record Reached (places : List ℕ) (trail : List Decided) (count : ℕ) (values : Values) : Type 0 where
+    pub moved : Rearranged noted start places
+    pub here : Decides t start noted base places count values
+    pub path : Trail t start noted base places trail count values
+    pub tried : Completion (MeetsFirst t start noted) base → Completion (MeetsFirst t start noted) values ⊎ Pending t start noted base trail values
+    pub room : length trail + undecided values ≤ length base
 
-module _ (t : List ℕ) (values : Values) (count : ℕ) (before after : List ℕ) (left : ℕ) (reduced : Reduced t values count before after left) where
-  -- a setting meets all rows exactly where it is a completion that meets those that are left
-  module _ (few : left ≤ count) (setting : Setting) where
-    whole : Agrees values setting → MeetsFirst t after left setting → MeetsFirst t before count setting
-    whole agrees met = back t count before after (reduced .rearranged) setting (record { each = λ i h. at-place i h (ltb i left) refl })
-      where
-        at-place : (i : ℕ) → i < count → (less : Bool) → ltb i left ≡ less → MeetsAt t (getD after i 0) setting
-        at-place i h true p = met .each i (ltb-true i left p)
-        at-place i h false p = reduced .hold few i (ltb-false i left p) h setting agrees
+  -- the branch at hand has failed, with fewer than `many` nodes still to be tried
+  pub record Failed (many : ℕ) (places : List ℕ) (count : ℕ) (trail : List Decided) (values : Values) : Type 0 where
+    pub moved : Rearranged noted start places
+    pub path : Trail t start noted base places trail count values
+    pub tried : Completion (MeetsFirst t start noted) base → Pending t start noted base trail values
+    pub room : length trail + undecided values ≤ length base
+    pub fewer : ahead trail values < many
 
-    part : Agrees values setting → MeetsFirst t before count setting → MeetsFirst t after left setting
-    part agrees met = record { each = λ i h. forth t count before after (reduced .rearranged) setting met .each i (omega arith) }
+  -- nothing is decided yet
+  pub reached-start : Reached start [] noted base
+  unfolding Trail
+  reached-start =
+      record {
+        moved = rearranged-not noted start;
+        here = record { few = omega arith; enough = λ setting agrees met. met };
+        path = refl;
+        tried = inl;
+        room = omega (arith, undecided-most base);
+      }
 
-  found-whole : left ≤ count → Completion (MeetsFirst t after left) values → Completion (MeetsFirst t before count) values
-  found-whole few = passing-too (whole few)
-
-  found-part : left ≤ count → Completion (MeetsFirst t before count) values → Completion (MeetsFirst t after left) values
-  found-part few = passing-too (part few)
-
-  found-one : Completion (MeetsFirst t before count) values → Searched t count before after values values true
-  found-one found = record { rearranged = reduced .rearranged; completed = record { restored = refl; found = λ _. found; none = λ e. absurd (true≢false e) } }
-
-  -- some row cannot be met
-  pub row-fails : count < left → Searched t count before after values values false
-  row-fails h = record { rearranged = reduced .rearranged; completed = record { restored = refl; found = λ e. absurd (false≢true e); none = λ _. reduced .lost h } }
-
-  -- no row is open
-  pub none-open : left ≡ 0 → Searched t count before after values values true
-  none-open e =
-      found-one
-      (found-whole (omega arith)
-      (record { setting = settled values; agrees = settled-agrees values; passes = record { each = λ i h. absurd (omega arith) } }))
-
-  module _ (few : left ≤ count) where
-    moved-on : (places : List ℕ) → Rearranged left after places → Rearranged count before places
-    moved-on places moved = rearranged-twice count before after places (reduced .rearranged) (rearranged-within left count after places few moved)
-
-    -- what is found of the rows that are left is found of all
-    pub found-left : (places : List ℕ) (answer : Bool) → Searched t left after places values values answer → Searched t count before places values values answer
-    found-left places answer searched =
+  module _ (places : List ℕ) (trail : List Decided) (count : ℕ) (values : Values) (reached : Reached places trail count values) where
+    -- a completion is found
+    pub found-all : Completion (MeetsFirst t places count) values → Completion (MeetsFirst t start noted) base
+    found-all found =
         record {
-          rearranged = moved-on places (searched .rearranged);
-          completed = record {
-            restored = refl;
-            found = λ good. found-whole few (searched .completed .found good);
-            none = λ e given. searched .completed .none e (found-part few given);
-          };
+          setting = found .setting;
+          agrees = trail-agrees t start noted base places trail count values (found .setting) (reached .path) (found .agrees);
+          passes = reached .here .enough (found .setting) (found .agrees) (found .passes);
         }
 
-    module _ (variable : ℕ) (inside : variable < length values) (free : isFree values variable ≡ true) where
-      -- a completion of one decided value more is a completion, and has one or the other value
-      without : {Passes : Setting → Type 0} (value : ℕ) → Completion Passes (set values variable value) → Completion Passes values
-      without value found =
-          record { setting = found .setting; agrees = agrees-without values variable inside free value (found .setting) (found .agrees); passes = found .passes }
+    module _ (after : List ℕ) (moved : Rearranged count places after) where
+      moved-on : Rearranged noted start after
+      moved-on = rearranged-twice noted start places after (reached .moved) (rearranged-within count noted places after (reached .here .few) moved)
 
-      with-value :
-          {Passes : Setting → Type 0} (value : ℕ) (found : Completion Passes values) →
-          getD (found .setting) variable false ≡ eqb value 1 →
-          Completion Passes (set values variable value)
-      with-value value found e =
-          record { setting = found .setting; agrees = agrees-with values variable inside free value (found .setting) (found .agrees) e; passes = found .passes }
+      path-on : Trail t start noted base after trail count values
+      path-on = trail-moved t start noted base places after trail count count values (omega arith) moved (reached .path)
 
-      -- the first value is found good
-      pub found-first :
-          (value : ℕ) (places : List ℕ) (now-values : Values) (answer : Bool) →
-          Searched t left after places (set values variable value) now-values answer →
-          answer ≡ true →
-          Searched t count before places values (set now-values variable 2) true
-      found-first value places now-values answer first good =
+      -- there is none in the branch at hand
+      pub branch-fails : (Completion (MeetsFirst t places count) values → ⊥) → Failed (nodes (undecided values) + ahead trail values) after count trail values
+      branch-fails none =
           record {
-            rearranged = moved-on places (first .rearranged);
-            completed = record {
-              restored = rw (first .completed .restored) (set-back values variable inside free value);
-              found = λ _. found-whole few (without value (first .completed .found good));
-              none = λ e. absurd (true≢false e);
-            };
-          }
-
-      -- it is found bad, so the other decides
-      pub decided-second :
-          (value : ℕ) (places places′ : List ℕ) (now-values now-values′ : Values) (earlier answer : Bool) →
-          value ≤ 1 →
-          Searched t left after places (set values variable value) now-values earlier →
-          earlier ≡ false →
-          Searched t left places places′ (set now-values variable (1 - value)) now-values′ answer →
-          Searched t count before places′ values (set now-values′ variable 2) answer
-      decided-second value places places′ now-values now-values′ earlier answer bit first bad second =
-          record {
-            rearranged = moved-on places′ (rearranged-twice left after places places′ (first .rearranged) (second .rearranged));
-            completed = record {
-              restored = rw (again .restored) (set-back values variable inside free (1 - value));
-              found = λ good. found-whole few (without (1 - value) (passing-too (λ setting _. back t left after places (first .rearranged) setting) (again .found good)));
-              none = λ e found. neither e (found-part few found);
-            };
+            moved = moved-on;
+            path = path-on;
+            tried = λ found. ⊎-elim (λ here. absurd (none (passing-too part here))) (λ pending. pending) (reached .tried found);
+            room = reached .room;
+            fewer = omega (arith, some-nodes (undecided values));
           }
         where
-          again : Completed (MeetsFirst t places left) (set values variable (1 - value)) now-values′ answer
-          again =
-              let same : set now-values variable (1 - value) ≡ set values variable (1 - value) = ap (λ (l : Values). set l variable (1 - value)) (first .completed .restored) ∙ set-set values variable value (1 - value) in
-              rw same at (second .completed)
+          part : (setting : Setting) → Agrees values setting → MeetsFirst t start noted setting → MeetsFirst t places count setting
+          part setting agrees met = record { each = λ i h. met-after t noted start places (reached .moved) setting met .each i (omega (arith, reached .here .few)) }
 
-          neither : answer ≡ false → Completion (MeetsFirst t after left) values → ⊥
-          neither e found =
-              ⊎-elim
-              (λ one. first .completed .none bad (with-value value found one))
-              (λ other. again .none e (passing-too (λ setting _. forth t left after places (first .rearranged) setting) (with-value (1 - value) found other)))
-              (one-or-other value bit (getD (found .setting) variable false))
+      -- rows are left open, and a variable is decided
+      module _ (decision : Decision) (open-rows : LeftOpen t values count after decision) where
+        undone : set (set values (decision .variable) (decision .first)) (decision .variable) 2 ≡ values
+        undone = set-back values (decision .variable) (open-rows .inside) (open-rows .free) (decision .first)
 
--- no variable is free: some row cannot be met, or the one completion meets them all
-module _ (t : List ℕ) (values : Values) (count : ℕ) (before after : List ℕ) (left : ℕ) (narrowed : Narrowed t values count before after left) where
-  pub not-met : count < left → Searched t count before after values values false
-  not-met h = row-fails t values count before after left (narrowed .reduced) h
+        given : getD (set values (decision .variable) (decision .first)) (decision .variable) 0 ≡ decision .first
+        given = getD-set-same values (decision .variable) (decision .first) 0 (open-rows .inside)
 
-  pub met-all : left ≤ count → ((other : ℕ) → isFree values other ≡ false) → Searched t count before after values values true
-  met-all few none =
-      found-one t values count before after left (narrowed .reduced)
-      (found-whole t values count before after left (narrowed .reduced) few
-      (record {
-        setting = settled values;
-        agrees = settled-agrees values;
-        passes = record { each = λ i h. decided-meets values (settled values) (settled-agrees values) none _ (narrowed .may-hold few i h) };
-      }))
+        decides : Decides t start noted base after (decision .left) values
+        decides =
+            record {
+              few = omega (arith, open-rows .few, reached .here .few);
+              enough = λ setting agrees met.
+                  reached .here .enough setting agrees
+                  (met-before t count places after moved setting (met-whole t after (decision .left) count setting (λ i a b. open-rows .hold i a b setting agrees) met));
+            }
+
+        waits :
+            Waits t start noted base after (decision .left) (set values (decision .variable) (decision .first)) (record { variable = decision .variable; waiting = decision .left })
+        waits =
+            record {
+              inside = simp length-set (open-rows .inside);
+              bit = rw given (open-rows .bit);
+              more = λ some. omega arith;
+              decide = λ some. rw undone decides;
+            }
+
+        same-open : openIn (decision .left) (decision .left) ≡ decision .left
+        same-open = go (eqb (decision .left) 0)
+          where
+            go : (none : Bool) → cond none (decision .left) (decision .left) ≡ decision .left
+            go true = refl
+            go false = refl
+
+        one-of-two :
+            Completion (MeetsFirst t start noted) values →
+            Completion (MeetsFirst t start noted) (set values (decision .variable) (decision .first))
+            ⊎ Completion (MeetsFirst t start noted) (set values (decision .variable) (1 - decision .first))
+        one-of-two found =
+            ⊎-elim (λ e. inl (with-value (decision .first) e)) (λ e. inr (with-value (1 - decision .first) e))
+            (one-or-other (decision .first) (open-rows .bit) (getD (found .setting) (decision .variable) false))
+          where
+            with-value : (value : ℕ) → getD (found .setting) (decision .variable) false ≡ eqb value 1 → Completion (MeetsFirst t start noted) (set values (decision .variable) value)
+            with-value value e =
+                record {
+                  setting = found .setting;
+                  agrees = agrees-with values (decision .variable) (open-rows .inside) (open-rows .free) value (found .setting) (found .agrees) e;
+                  passes = found .passes;
+                }
+
+        pub decided-next :
+            Reached after (record { variable = decision .variable; waiting = decision .left } ∷ trail) (decision .left) (set values (decision .variable) (decision .first))
+        unfolding Trail Pending
+        decided-next =
+            record {
+              moved = moved-on;
+              here = record {
+                few = decides .few;
+                enough = λ setting agrees.
+                    decides .enough setting (agrees-without values (decision .variable) (open-rows .inside) (open-rows .free) (decision .first) setting agrees);
+              };
+              path = (waits, rw (undone, same-open) (trail-fewer t start noted base after trail (decision .left) count values (open-rows .few) path-on));
+              tried = λ found. ⊎-elim (λ here. ⊎-elim inl (λ other. inr (inl (open-rows .some, rw (given, set-set values (decision .variable) (decision .first) (1 - decision .first)) other))) (one-of-two here)) (λ pending. inr (inr (rw undone pending))) (reached .tried found);
+              room = omega (arith, reached .room, fewer-undecided values (decision .variable) (open-rows .inside) (open-rows .free) (decision .first) (open-rows .bit));
+            }
+
+        -- fewer nodes are left, however many rows are said to wait
+        pub fewer-nodes :
+            (waiting : ℕ) →
+            nodes (undecided (set values (decision .variable) (decision .first))) + ahead (record { variable = decision .variable; waiting = waiting } ∷ trail) (set values (decision .variable) (decision .first))
+            < nodes (undecided values) + ahead trail values
+        unfolding ahead
+        fewer-nodes waiting = rw undone (go (eqb waiting 0))
+          where
+            less : nodes (undecided (set values (decision .variable) (decision .first))) + nodes (undecided (set values (decision .variable) (decision .first))) < nodes (undecided values)
+            less =
+                two-trees (undecided (set values (decision .variable) (decision .first))) (undecided values)
+                (fewer-undecided values (decision .variable) (open-rows .inside) (open-rows .free) (decision .first) (open-rows .bit))
+
+            go :
+                (none : Bool) →
+                nodes (undecided (set values (decision .variable) (decision .first))) + (cond none 0 (nodes (undecided (set values (decision .variable) (decision .first)))) + ahead trail values)
+                < nodes (undecided values) + ahead trail values
+            go true = omega (arith, less)
+            go false = omega (arith, less)
+
+  module _ (many : ℕ) (places : List ℕ) (count : ℕ) where
+    -- both values of the last decision are tried
+    pub failed-back : (last : Decided) (earlier : List Decided) (values : Values) → last .waiting ≡ 0 → Failed many places count (last ∷ earlier) values → Failed many places count earlier (set values (last .variable) 2)
+    unfolding Trail Pending ahead
+    failed-back last earlier values e failed =
+        record {
+          moved = failed .moved;
+          path = rw (eq-eqb (last .waiting) 0 e) at (failed .path .1);
+          tried = λ found. ⊎-elim (λ here. absurd (omega (arith, here .0))) (λ pending. pending) (failed .tried found);
+          room = omega (arith, failed .room, undecided-changed values (last .variable) 2);
+          fewer = let fewer : 0 + ahead earlier (set values (last .variable) 2) < many = rw (eq-eqb (last .waiting) 0 e) at (failed .fewer) in omega arith;
+        }
+
+    -- nothing is left to be tried
+    pub none-left : (values : Values) → Failed many places count [] values → Completion (MeetsFirst t start noted) base → ⊥
+    unfolding Pending
+    none-left values failed = failed .tried
+
+    -- the other value of the last decision is tried
+    module _ (last : Decided) (earlier : List Decided) (values : Values) (failed : Failed many places count (last ∷ earlier) values) (some : 0 < last .waiting) where
+      pub last-waits : Waits t start noted base places count values last
+      unfolding Trail
+      last-waits = failed .path .0
+
+      before : Trail t start noted base places earlier (last .waiting) (set values (last .variable) 2)
+      unfolding Trail
+      before = let there : last .waiting ≡ 0 → ⊥ = λ e. omega arith in rw (ne-eqb (last .waiting) 0 there) at (failed .path .1)
+
+      freed-again : (value : ℕ) → set (set values (last .variable) value) (last .variable) 2 ≡ set values (last .variable) 2
+      freed-again value = set-set values (last .variable) value 2
+
+      pub turned : Reached places (record { variable = last .variable; waiting = 0 } ∷ earlier) (last .waiting) (set values (last .variable) (1 - getD values (last .variable) 0))
+      unfolding Trail Pending
+      turned =
+          record {
+            moved = failed .moved;
+            here = record {
+              few = last-waits .decide some .few;
+              enough = λ setting agrees.
+                  last-waits .decide some .enough setting
+                  (rw (freed-again (1 - getD values (last .variable) 0)) at (agrees-freed (set values (last .variable) (1 - getD values (last .variable) 0)) (last .variable) setting (simp length-set (last-waits .inside)) agrees));
+            };
+            path = (
+              record {
+                inside = simp length-set (last-waits .inside);
+                bit = rw (getD-set-same values (last .variable) (1 - getD values (last .variable) 0) 0 (last-waits .inside)) (omega arith);
+                more = λ h. absurd (omega arith);
+                decide = λ h. absurd (omega arith);
+              },
+              rw (freed-again (1 - getD values (last .variable) 0)) before,
+            );
+            tried = λ found. ⊎-elim (λ here. inl (here .1)) (λ pending. inr (inr (rw (freed-again (1 - getD values (last .variable) 0)) pending))) (failed .tried found);
+            room = omega (arith, failed .room, undecided-turned values (last .variable) (1 - getD values (last .variable) 0) (last-waits .bit) (omega arith));
+          }
+
+      pub fewer-turned :
+          nodes (undecided (set values (last .variable) (1 - getD values (last .variable) 0)))
+          + ahead (record { variable = last .variable; waiting = 0 } ∷ earlier) (set values (last .variable) (1 - getD values (last .variable) 0))
+          < many
+      unfolding ahead
+      fewer-turned =
+          let there : last .waiting ≡ 0 → ⊥ = λ e. omega arith in
+          let fewer : nodes (undecided values) + ahead earlier (set values (last .variable) 2) < many = rw (ne-eqb (last .waiting) 0 there) at (failed .fewer) in
+          rw (undecided-turned values (last .variable) (1 - getD values (last .variable) 0) (last-waits .bit) (omega arith), freed-again (1 - getD values (last .variable) 0)) (omega arith)

@@ -1,5 +1,5 @@
 -- What a caller of the question must know.
-use Prim.Native.Nat.{ℕ, _+_}
+use Prim.Native.Nat.{ℕ, _<_}
 use mathlib.Core.Path.{_≡_}
 use mathlib.Core.Bool.{Bool, true, false}
 use mathlib.Core.List.{List}
@@ -10,5 +10,5 @@ use Rattle.table.specs.Kept.{Kept}
 -- the table keeps its frame, and the selection has an entry for each role, the host's true
 pub record Asked (t : List ℕ) (f : Frame) (chosen : List Bool) : Type 0 where
   pub kept : Kept t f
-  pub each : length chosen ≡ f .requests + 1
+  pub each : f .requests < length chosen
   pub host : getD chosen 0 false ≡ true

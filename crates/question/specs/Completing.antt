@@ -10,7 +10,6 @@ use Rattle.table.specs.Kept.{rowsOf}
 use Rattle.meaning.specs.Meaning.{Setting, meets, meetsAll}
 use Rattle.meaning.specs.Stands.{byRole}
 use Rattle.meaning.specs.HalfMade.{Values, Agrees}
-use Rattle.question.specs.Rearranging.{Rearranged}
 
 -- a completion that passes
 pub record Completion (Passes : Setting → Type 0) (values : Values) : Type 0 where
@@ -18,9 +17,8 @@ pub record Completion (Passes : Setting → Type 0) (values : Values) : Type 0 w
   pub agrees : Agrees values setting
   pub passes : Passes setting
 
--- the answer says whether there is one; the values are left as they were
-pub record Completed (Passes : Setting → Type 0) (values now-values : Values) (answer : Bool) : Type 0 where
-  pub restored : now-values ≡ values
+-- the answer says whether there is one
+pub record Completed (Passes : Setting → Type 0) (values : Values) (answer : Bool) : Type 0 where
   pub found : answer ≡ true → Completion Passes values
   pub none : answer ≡ false → Completion Passes values → ⊥
 
@@ -35,8 +33,3 @@ MeetsAt t place setting = meets setting (rowAt t place) ≡ true
 -- the setting meets the rows at the first `count` places of a list
 pub record MeetsFirst (t places : List ℕ) (count : ℕ) (setting : Setting) : Type 0 where
   pub each : (i : ℕ) → i < count → MeetsAt t (getD places i 0) setting
-
--- the same answer for the rows at the first `count` places; the search leaves these rearranged
-pub record Searched (t : List ℕ) (count : ℕ) (before after : List ℕ) (values now-values : Values) (answer : Bool) : Type 0 where
-  pub rearranged : Rearranged count before after
-  pub completed : Completed (MeetsFirst t before count) values now-values answer

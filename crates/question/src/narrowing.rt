@@ -1,12 +1,9 @@
 // The rows that a half-made setting leaves open: their places are moved to the front of the list.
 ghost use mathlib.Core.Path.{_≡_};
-ghost use Prim.Native.Nat.{ℕ, _<_};
-ghost use mathlib.Core.Bool.{false};
+ghost use Prim.Native.Nat.{_<_};
 ghost use lib.ListN.{length};
 ghost use Rattle.meaning.specs.WholeRows.{RowsAsked};
-ghost use Rattle.meaning.specs.HalfMade.{isFree};
 ghost use Rattle.question.specs.Rearranging.{exchanged};
-ghost use Rattle.question.specs.Completing.{Searched};
 ghost use Rattle.question.specs.Narrowing.{Narrowed, Reduced};
 use meaning::rows::row_state;
 
@@ -57,15 +54,4 @@ pub fn narrow_unless_blind(
         return count;
     }
     narrow(table, places, count, values)
-}
-
-// Whether the rows are met, where every variable is decided.
-pub fn all_met(table: &[u8], places: &mut [u16], count: usize, values: &[u8]) -> bool
-    requires { ⌜ RowsAsked (now table) (now places) count (length (now values)) × ((other : ℕ) → isFree (now values) other ≡ false) ⌝ }
-    ensures { λ r. ⌜ Searched (now (table .entry)) count (now (places .entry)) (now (places .exit)) (now (values .entry)) (now (values .entry)) r ⌝ }
-{
-    if count < narrow(table, places, count, values) {
-        return false;
-    }
-    true
 }

@@ -6,7 +6,7 @@ use Rattle.choice.proofs.notes.clear_scores.Statement.{statement}
 use Rattle.choice.proofs.notes.clear_scores.Tie as tie
 use Rattle.choice.proofs.notes.clear_scores.Reads as reads
 use Rattle.choice.proofs.notes.clear_scores.Lts as lts
-use Rattle.choice.proofs.notes.clear_note.Reads as clear-note-reads
+use Rattle.choice.proofs.notes.set_note.Reads as set-note-reads
 
 abbrev Inv-loop : tie.InvT-loop
 Inv-loop notes₀ next₀ notes next = length notes ≡ length notes₀
@@ -19,8 +19,8 @@ loop-holds : tie.Need-loop-holds Inv-loop μ-loop
 loop-holds c = refl
 
 -- src/notes.rt:46:9
-clear-note-requires : tie.Need-clear-note-requires Inv-loop μ-loop
-clear-note-requires c κs = omega arith
+set-note-requires : tie.Need-set-note-requires Inv-loop μ-loop
+set-note-requires c κs = omega arith
 
 -- src/notes.rt:47:16
 add-next : tie.Need-add-next Inv-loop μ-loop
@@ -49,7 +49,7 @@ clear-scores-spec =
     Inv-loop
     μ-loop
     loop-holds
-    clear-note-requires
+    set-note-requires
     add-next
     loop-less
     loop-again

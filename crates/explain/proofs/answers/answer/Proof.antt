@@ -27,28 +27,44 @@ enum-told-2 : tie.Need-enum-told-2
 enum-told-2 c = search needs
 
 work-requires : tie.Need-work-requires
-work-requires c κs = (relent _ (c .before .before .before .before .before .before .before .before .before .before .pre) (c .before .before .before .before .before .begin .kept .1 .1 .1 .0), open-none (c .before .before .before .before .before .before .before .before .before .before .args .method) (questionOf (c .before .before .before .before .before .before .before .before .before .before .args .table .now) (c .before .before .before .before .before .before .before .before .before .before .args .frame) (c .before .before .before .before .before .before .before .before .before .before .args .order .now)) (length (c .before .before .before .before .before .before .before .before .before .before .args .flags .now)) (c .before .before .before .before .before .begin .result) _ (c .before .before .before .before .before .begin .ensures) (c .before .enum-told2 .given .1) ∙ ap none (sym (c .before .before .before .before .before .begin .kept .1 .1 .1 .0)), rw (c .before .before .before .before .before .begin .kept .1 .1 .1 .0) (open-some (c .before .before .before .before .before .before .before .before .before .before .args .method) (questionOf (c .before .before .before .before .before .before .before .before .before .before .args .table .now) (c .before .before .before .before .before .before .before .before .before .before .args .frame) (c .before .before .before .before .before .before .before .before .before .before .args .order .now)) (length (c .before .before .before .before .before .before .before .before .before .before .args .flags .now)) (c .before .before .before .before .before .begin .result) _ (c .before .before .before .before .before .begin .ensures) (c .before .enum-told2 .given .1)))
+work-requires c κs =
+    let entry = c .before .before .before .before .before .before .before .before .before .before .before .before .before .before .args in
+    let known = c .before .before .before .before .before .before .before .before .before .before .before .before .before .before .pre in
+    let begin = c .before .before .before .before .before .before .before .begin in
+    let enum-told2 = c .before .before .before .enum-told2 in
+    (relent _ known (begin .kept .1 .1 .1 .0), open-none (entry .method) (questionOf (entry .table .now) (entry .frame) (entry .order .now)) (length (entry .flags .now)) (begin .result) _ (begin .ensures) (enum-told2 .given .1) ∙ ap none (sym (begin .kept .1 .1 .1 .0)), rw (begin .kept .1 .1 .1 .0) (open-some (entry .method) (questionOf (entry .table .now) (entry .frame) (entry .order .now)) (length (entry .flags .now)) (begin .result) _ (begin .ensures) (enum-told2 .given .1)))
 
-add-t17 : tie.Need-add-t17
-add-t17 c = search needs
+add-t23 : tie.Need-add-t23
+add-t23 c = search needs
 
 same-length : tie.Need-same-length
 same-length c = search needs
 
 returns : tie.Need-returns
-returns c = answers-all (c .before .before .before .before .before .before .before .before .before .before .before .before .before .args .method) (questionOf (c .before .before .before .before .before .before .before .before .before .before .before .before .before .args .table .now) (c .before .before .before .before .before .before .before .before .before .before .before .before .before .args .frame) (c .before .before .before .before .before .before .before .before .before .before .before .before .before .args .order .now)) (length (c .before .before .before .before .before .before .before .before .before .before .before .before .before .args .flags .now)) (c .before .before .before .before .before .before .before .before .begin .result) _ (c .before .before .before .before .before .before .before .before .begin .ensures) (c .before .before .before .before .enum-told .given .1) _ (c .before .before .settle .ensures ∙ ap (wholeBy (c .before .before .before .before .before .before .before .before .before .before .before .before .before .args .method)) (c .before .before .before .before .before .before .before .before .begin .kept .1 .1 .1 .0))
+returns c =
+    let entry = c .before .before .before .before .before .before .before .before .before .before .before .before .before .before .before .args in
+    let begin = c .before .before .before .before .before .before .before .before .begin in
+    answers-all (entry .method) (questionOf (entry .table .now) (entry .frame) (entry .order .now)) (length (entry .flags .now)) (begin .result) _ (begin .ensures) (c .before .before .before .before .enum-told .given .1) _ (c .before .before .settle .ensures ∙ ap (wholeBy (entry .method)) (begin .kept .1 .1 .1 .0))
 
 same-length-2 : tie.Need-same-length-2
 same-length-2 c = search needs
 
 returns-2 : tie.Need-returns-2
-returns-2 c = answers-host-fails (c .before .before .before .before .before .before .before .before .before .before .args .method) (questionOf (c .before .before .before .before .before .before .before .before .before .before .args .table .now) (c .before .before .before .before .before .before .before .before .before .before .args .frame) (c .before .before .before .before .before .before .before .before .before .before .args .order .now)) (length (c .before .before .before .before .before .before .before .before .before .before .args .flags .now)) (c .before .before .before .before .before .begin .result) _ (c .before .before .before .before .before .begin .ensures) _ (c .before .begun .given .1)
+returns-2 c =
+    let entry = c .before .before .before .before .before .before .before .before .before .before .before .before .args in
+    let begin = c .before .before .before .before .before .begin in
+    answers-host-fails (entry .method) (questionOf (entry .table .now) (entry .frame) (entry .order .now)) (length (entry .flags .now)) (begin .result) _ (begin .ensures) _ (c .before .begun .given .1)
 
 same-length-3 : tie.Need-same-length-3
 same-length-3 c = search needs
 
 returns-3 : tie.Need-returns-3
-returns-3 c = answers-worked (c .before .before .before .before .before .before .before .before .before .before .before .before .before .args .method) (questionOf (c .before .before .before .before .before .before .before .before .before .before .before .before .before .args .table .now) (c .before .before .before .before .before .before .before .before .before .before .before .before .before .args .frame) (c .before .before .before .before .before .before .before .before .before .before .before .before .before .args .order .now)) (length (c .before .before .before .before .before .before .before .before .before .before .before .before .before .args .flags .now)) (c .before .before .before .before .before .before .before .before .begin .result) _ (c .before .before .before .before .before .before .before .before .begin .ensures) (c .before .before .before .before .enum-told2 .given .1) _ _ (c .before .before .work .kept .1 .1 .1 .1 .0 ∙ (c .before .before .before .before .before .before .before .before .begin .kept .1 .1 .1 .0)) (rw (c .before .before .before .before .before .before .before .before .begin .kept .1 .1 .1 .0) at (c .before .before .work .ensures))
+returns-3 c =
+    let entry = c .before .before .before .before .before .before .before .before .before .before .before .before .before .before .before .before .before .args in
+    let begin = c .before .before .before .before .before .before .before .before .before .before .begin in
+    let enum-told2 = c .before .before .before .before .before .before .enum-told2 in
+    let work = c .before .before .work in
+    answers-worked (entry .method) (questionOf (entry .table .now) (entry .frame) (entry .order .now)) (length (entry .flags .now)) (begin .result) _ (begin .ensures) (enum-told2 .given .1) _ _ (work .kept .1 .1 .1 .1 .0 ∙ (begin .kept .1 .1 .1 .0)) (rw (begin .kept .1 .1 .1 .0) at (work .ensures))
 
 pub answer-spec : {M : Type 1} → statement M
 answer-spec =
@@ -60,7 +76,7 @@ answer-spec =
     enum-known-begun
     enum-told-2
     work-requires
-    add-t17
+    add-t23
     same-length
     returns
     same-length-2

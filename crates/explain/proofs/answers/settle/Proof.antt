@@ -37,28 +37,36 @@ same-length c = search needs
 
 returns : tie.Need-returns
 unfolding wholeBy none
-returns c = rw (c .before .before .before .before .enum-told .given .1) (c .before .before .fill .ensures ∙ fill-all false (c .before .before .before .before .before .before .before .args .flags .now))
+returns c =
+    let entry = c .before .before .before .before .before .before .before .args in
+    rw (c .before .before .before .before .enum-told .given .1) (c .before .before .fill .ensures ∙ fill-all false (entry .flags .now))
 
 same-length-2 : tie.Need-same-length-2
 same-length-2 c = search needs
 
 returns-2 : tie.Need-returns-2
 unfolding wholeBy none
-returns-2 c = rw (c .before .before .before .before .enum-told2 .given .1) (c .before .before .fill2 .ensures ∙ fill-all false (c .before .before .before .before .before .before .before .args .flags .now))
+returns-2 c =
+    let entry = c .before .before .before .before .before .before .before .args in
+    rw (c .before .before .before .before .enum-told2 .given .1) (c .before .before .fill2 .ensures ∙ fill-all false (entry .flags .now))
 
 same-length-3 : tie.Need-same-length-3
 same-length-3 c = search needs
 
 returns-3 : tie.Need-returns-3
 unfolding wholeBy all
-returns-3 c = rw (c .before .before .before .before .enum-told3 .given .1) (c .before .before .fill3 .ensures ∙ fill-all true (c .before .before .before .before .before .before .before .args .flags .now))
+returns-3 c =
+    let entry = c .before .before .before .before .before .before .before .args in
+    rw (c .before .before .before .before .enum-told3 .given .1) (c .before .before .fill3 .ensures ∙ fill-all true (entry .flags .now))
 
 same-length-4 : tie.Need-same-length-4
 same-length-4 c = search needs
 
 returns-4 : tie.Need-returns-4
 unfolding wholeBy all
-returns-4 c = rw (c .before .before .before .before .enum-told4 .given .1) (c .before .before .fill4 .ensures ∙ fill-all true (c .before .before .before .before .before .before .before .args .flags .now))
+returns-4 c =
+    let entry = c .before .before .before .before .before .before .before .args in
+    rw (c .before .before .before .before .enum-told4 .given .1) (c .before .before .fill4 .ensures ∙ fill-all true (entry .flags .now))
 
 pub settle-spec : {M : Type 1} → statement M
 settle-spec =

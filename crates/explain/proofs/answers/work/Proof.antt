@@ -10,7 +10,10 @@ enum-told : tie.Need-enum-told
 enum-told c = search needs
 
 halve-conflict-requires : tie.Need-halve-conflict-requires
-halve-conflict-requires c κs = (c .before .before .before .before .before .before .pre .0, conflict-starts (c .before .before .before .before .before .before .args .flags .now) (c .before .before .before .before .before .before .pre .1) (c .before .before .before .before .before .before .pre .2))
+halve-conflict-requires c κs =
+    let entry = c .before .before .before .before .before .before .before .before .args in
+    let known = c .before .before .before .before .before .before .before .before .pre in
+    (known .0, conflict-starts (entry .flags .now) (known .1) (known .2))
 
 enum-told-2 : tie.Need-enum-told-2
 enum-told-2 c = search needs
@@ -22,7 +25,10 @@ enum-told-3 : tie.Need-enum-told-3
 enum-told-3 c = search needs
 
 halve-relaxation-requires : tie.Need-halve-relaxation-requires
-halve-relaxation-requires c κs = (c .before .before .before .before .before .before .pre .0, relaxation-starts (c .before .before .before .before .before .before .args .flags .now) (c .before .before .before .before .before .before .pre .1) (c .before .before .before .before .before .before .pre .2))
+halve-relaxation-requires c κs =
+    let entry = c .before .before .before .before .before .before .before .before .args in
+    let known = c .before .before .before .before .before .before .before .before .pre in
+    (known .0, relaxation-starts (entry .flags .now) (known .1) (known .2))
 
 enum-told-4 : tie.Need-enum-told-4
 enum-told-4 c = search needs
@@ -35,28 +41,42 @@ same-length c = search needs
 
 returns : tie.Need-returns
 unfolding workedBy
-returns c = rw (c .before .before .before .before .enum-told .given .1) (conflict-told (c .before .before .before .before .before .before .before .before .before .args .flags .now) (c .before .before .before .before .before .before .before .before .before .pre .1) (c .before .before .before .before .before .before .before .before .before .pre .2) (questionOf (c .before .before .before .before .before .before .before .before .before .args .table .now) (c .before .before .before .before .before .before .before .before .before .args .frame) (c .before .before .before .before .before .before .before .before .before .args .order .now)) _ _ _ (c .before .before .halve-conflict .kept .1 .1 .1 .0) (c .before .before .halve-conflict .ensures))
+returns c =
+    let entry = c .before .before .before .before .before .before .before .before .before .before .before .args in
+    let known = c .before .before .before .before .before .before .before .before .before .before .before .pre in
+    let enum-told = c .before .before .before .before .before .before .enum-told in
+    let halve-conflict = c .before .before .halve-conflict in
+    rw (enum-told .given .1) (conflict-told (entry .flags .now) (known .1) (known .2) (questionOf (entry .table .now) (entry .frame) (entry .order .now)) _ _ _ (halve-conflict .kept .1 .1 .1 .0) (halve-conflict .ensures))
 
 same-length-2 : tie.Need-same-length-2
 same-length-2 c = search needs
 
 returns-2 : tie.Need-returns-2
 unfolding workedBy
-returns-2 c = rw (c .before .before .before .before .enum-told2 .given .1) (c .before .before .remove-one-by-one .ensures)
+returns-2 c =
+    let enum-told2 = c .before .before .before .before .before .before .enum-told2 in
+    rw (enum-told2 .given .1) (c .before .before .remove-one-by-one .ensures)
 
 same-length-3 : tie.Need-same-length-3
 same-length-3 c = search needs
 
 returns-3 : tie.Need-returns-3
 unfolding workedBy
-returns-3 c = rw (c .before .before .before .before .enum-told3 .given .1) (relaxation-told (c .before .before .before .before .before .before .before .before .before .args .flags .now) (c .before .before .before .before .before .before .before .before .before .pre .1) (c .before .before .before .before .before .before .before .before .before .pre .2) (questionOf (c .before .before .before .before .before .before .before .before .before .args .table .now) (c .before .before .before .before .before .before .before .before .before .args .frame) (c .before .before .before .before .before .before .before .before .before .args .order .now)) _ _ _ (c .before .before .halve-relaxation .kept .1 .1 .1 .0) (c .before .before .halve-relaxation .ensures))
+returns-3 c =
+    let entry = c .before .before .before .before .before .before .before .before .before .before .before .args in
+    let known = c .before .before .before .before .before .before .before .before .before .before .before .pre in
+    let enum-told3 = c .before .before .before .before .before .before .enum-told3 in
+    let halve-relaxation = c .before .before .halve-relaxation in
+    rw (enum-told3 .given .1) (relaxation-told (entry .flags .now) (known .1) (known .2) (questionOf (entry .table .now) (entry .frame) (entry .order .now)) _ _ _ (halve-relaxation .kept .1 .1 .1 .0) (halve-relaxation .ensures))
 
 same-length-4 : tie.Need-same-length-4
 same-length-4 c = search needs
 
 returns-4 : tie.Need-returns-4
 unfolding workedBy
-returns-4 c = rw (c .before .before .before .before .enum-told4 .given .1) (c .before .before .add-one-by-one .ensures)
+returns-4 c =
+    let enum-told4 = c .before .before .before .before .before .before .enum-told4 in
+    rw (enum-told4 .given .1) (c .before .before .add-one-by-one .ensures)
 
 pub work-spec : {M : Type 1} → statement M
 work-spec =

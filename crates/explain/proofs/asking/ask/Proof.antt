@@ -1,31 +1,36 @@
--- `explain::asking::ask` meets its contract.
-use mathlib.Core.Path.{sym}
-use Rattle.explain.proofs.Questions.{fresh, fresh-length}
+use Rattle.explain.proofs.Questions.{order-fits, may-ask, same-question}
 use borrow.Author.Needs.{needs}
 use Rattle.explain.proofs.asking.ask.Statement.{statement}
 use Rattle.explain.proofs.asking.ask.Tie as tie
+use Rattle.explain.proofs.asking.ask.Reads as reads
+use Rattle.explain.proofs.asking.ask.Lts as lts
+use Rattle.explain.proofs.asking.mark.Reads as mark-reads
+use Rattle.question.proofs.search.can_stand.Reads as can-stand-reads
 
-add-entries : tie.Need-add-entries
-add-entries c = search needs
+-- src/asking.rt:44:5
+element-write-chosen : tie.Need-element-write-chosen
+element-write-chosen c = search needs
 
-array-borrow-prefix-chosen : tie.Need-array-borrow-prefix-chosen
-array-borrow-prefix-chosen c = search needs
+-- src/asking.rt:45:5
+mark-requires : tie.Need-mark-requires
+mark-requires c κs =
+    let entry = c .before .before .before .before .before .args in
+    let known = c .before .before .before .before .before .pre in
+    (known .each, order-fits (entry .table .now) (entry .frame) (entry .order .now) (entry .flags .now) known)
 
-slice-aggregate-ask-with : tie.Need-slice-aggregate-ask-with
-slice-aggregate-ask-with c = sym (fresh-length (c .before .before .before .before .before .args .frame) (c .before .before .before .before .before .pre .kept .few-requests))
+-- src/asking.rt:46:5
+can-stand-requires : tie.Need-can-stand-requires
+can-stand-requires c κs =
+    let entry = c .before .before .before .before .before .before .before .before .before .args in
+    let known = c .before .before .before .before .before .before .before .before .before .pre in
+    may-ask (entry .table .now) (entry .frame) (entry .order .now) (entry .flags .now) known _ (c .before .before .before .mark .ensures)
 
-ask-with-requires : tie.Need-ask-with-requires
-ask-with-requires c κs = (c .before .before .before .before .before .pre, fresh (c .before .before .before .before .before .args .frame) (c .before .before .before .before .before .pre .kept .few-requests))
-
+-- src/asking.rt:32:1
 returns : tie.Need-returns
-returns c = search needs
+returns c =
+    let entry = c .before .before .before .before .before .before .before .before .before .before .args in
+    let known = c .before .before .before .before .before .before .before .before .before .before .pre in
+    same-question (entry .table .now) (entry .frame) (entry .order .now) (entry .flags .now) known _ (c .before .before .before .before .mark .ensures) (c .can-stand .result) (c .can-stand .ensures)
 
 pub ask-spec : {M : Type 1} → statement M
-ask-spec =
-    tie.close
-    (tie.spec
-    add-entries
-    array-borrow-prefix-chosen
-    slice-aggregate-ask-with
-    ask-with-requires
-    returns)
+ask-spec = tie.close (tie.spec element-write-chosen mark-requires can-stand-requires returns)

@@ -43,7 +43,11 @@ cast-request c = omega (arith, c .shared-slice-known2 .given (c .before .before 
 
 slice-write-chosen : tie.Need-slice-write-chosen Inv-loop μ-loop
 unfolding within
-slice-write-chosen c = rw (c .before .before .before .before .loop .inv .1) (ltb-true _ _ (both (leb 0 (getD (c .before .before .before .before .before .args .order .now) (c .before .before .before .before .loop .place) 0)) (ltb (getD (c .before .before .before .before .before .args .order .now) (c .before .before .before .before .loop .place) 0) (length (c .before .before .before .before .before .args .chosen .now))) (every-at (within 0 (length (c .before .before .before .before .before .args .chosen .now))) (c .before .before .before .before .before .args .order .now) 0 (c .before .before .before .before .loop .place) (c .before .before .before .before .before .pre .1) (c .before .before .before .loop-test .taken)) .1))
+slice-write-chosen c =
+    let entry = c .before .before .before .before .before .args in
+    let known = c .before .before .before .before .before .pre in
+    let loop = c .before .before .before .before .loop in
+    rw (loop .inv .1) (ltb-true _ _ (both (leb 0 (getD (entry .order .now) (loop .place) 0)) (ltb (getD (entry .order .now) (loop .place) 0) (length (entry .chosen .now))) (every-at (within 0 (length (entry .chosen .now))) (entry .order .now) 0 (loop .place) (known .1) (c .before .before .before .loop-test .taken)) .1))
 
 add-place : tie.Need-add-place Inv-loop μ-loop
 add-place c = omega arith
@@ -53,7 +57,11 @@ loop-less c = omega arith
 
 loop-again : tie.Need-loop-again Inv-loop μ-loop
 unfolding marked
-loop-again c = (omega arith, simp length-set (c .before .before .before .before .loop .inv .1), sym (ap (λ (l : List ℕ). marked l (c .before .before .before .before .loop .chosen)) (named-chosen (c .before .before .before .before .before .args .order .now) (c .before .before .before .before .before .args .flags .now) (c .before .before .before .before .loop .place) 0 false (c .before .before .before .before .before .pre .0) (c .before .before .before .loop-test .taken) (c .before .if1 .taken))) ∙ c .before .before .before .before .loop .inv .2)
+loop-again c =
+    let entry = c .before .before .before .before .before .args in
+    let known = c .before .before .before .before .before .pre in
+    let loop = c .before .before .before .before .loop in
+    (omega arith, simp length-set (loop .inv .1), sym (ap (λ (l : List ℕ). marked l (loop .chosen)) (named-chosen (entry .order .now) (entry .flags .now) (loop .place) 0 false (known .0) (c .before .before .before .loop-test .taken) (c .before .if1 .taken))) ∙ loop .inv .2)
 
 add-place-2 : tie.Need-add-place-2 Inv-loop μ-loop
 add-place-2 c = omega arith
@@ -62,14 +70,19 @@ loop-less-2 : tie.Need-loop-less-2 Inv-loop μ-loop
 loop-less-2 c = omega arith
 
 loop-again-2 : tie.Need-loop-again-2 Inv-loop μ-loop
-loop-again-2 c = (omega arith, c .before .before .before .loop .inv .1, sym (ap (λ (l : List ℕ). marked l (c .before .before .before .loop .chosen)) (named-left-out (c .before .before .before .before .args .order .now) (c .before .before .before .before .args .flags .now) (c .before .before .before .loop .place) 0 false (c .before .before .before .before .pre .0) (c .before .before .loop-test .taken) (c .if1 .left))) ∙ c .before .before .before .loop .inv .2)
+loop-again-2 c =
+    let entry = c .before .before .before .before .args in
+    let loop = c .before .before .before .loop in
+    (omega arith, loop .inv .1, sym (ap (λ (l : List ℕ). marked l (loop .chosen)) (named-left-out (entry .order .now) (entry .flags .now) (loop .place) 0 false (c .before .before .before .before .pre .0) (c .before .before .loop-test .taken) (c .if1 .left))) ∙ loop .inv .2)
 
 same-length : tie.Need-same-length Inv-loop μ-loop
 same-length c = c .before .loop .inv .1
 
 returns : tie.Need-returns Inv-loop μ-loop
 unfolding marked
-returns c = sym (ap (λ (l : List ℕ). marked l (c .before .loop .chosen)) (none-named (c .before .before .args .order .now) (c .before .before .args .flags .now) (c .before .loop .place) (c .loop-test .left))) ∙ c .before .loop .inv .2
+returns c =
+    let entry = c .before .before .args in
+    sym (ap (λ (l : List ℕ). marked l (c .before .loop .chosen)) (none-named (entry .order .now) (entry .flags .now) (c .before .loop .place) (c .loop-test .left))) ∙ c .before .loop .inv .2
 
 pub mark-spec : {M : Type 1} → statement M
 mark-spec =

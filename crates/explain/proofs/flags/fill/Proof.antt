@@ -37,7 +37,9 @@ same-length : tie.Need-same-length Inv-loop μ-loop
 same-length c = c .before .loop .inv .1
 
 returns : tie.Need-returns Inv-loop μ-loop
-returns c = fill-none (c .before .before .args .value) (c .before .loop .left) (c .before .loop .flags) (c .before .loop .at) (c .loop-test .left) ∙ c .before .loop .inv .2 ∙ fill-is (c .before .before .args .value) (c .before .before .args .from) (c .before .before .args .count) (c .before .before .args .flags .now) (c .before .before .pre)
+returns c =
+    let entry = c .before .before .args in
+    fill-none (entry .value) (c .before .loop .left) (c .before .loop .flags) (c .before .loop .at) (c .loop-test .left) ∙ c .before .loop .inv .2 ∙ fill-is (entry .value) (entry .from) (entry .count) (entry .flags .now) (c .before .before .pre)
 
 pub fill-spec : {M : Type 1} → statement M
 fill-spec =

@@ -7,7 +7,7 @@ ask-requires : tie.Need-ask-requires
 ask-requires c κs = search needs
 
 returns : tie.Need-returns
-returns c = rw (c .before .if1 .taken, ← c .ask .ensures)
+returns c = rw (c .before .before .before .if1 .taken, ← c .ask .ensures)
 
 returns-2 : tie.Need-returns-2
 returns-2 c = search needs

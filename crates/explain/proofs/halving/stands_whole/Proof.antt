@@ -8,10 +8,15 @@ use Rattle.explain.proofs.halving.stands_whole.Statement.{statement}
 use Rattle.explain.proofs.halving.stands_whole.Tie as tie
 
 returns : tie.Need-returns
-returns c = not-tried (questionOf (c .before .before .before .before .args .table .now) (c .before .before .before .before .args .frame) (c .before .before .before .before .args .order .now)) (c .before .before .before .before .args .from) (c .before .before .before .before .args .count) (c .before .before .before .before .args .asking) (c .before .before .before .before .args .flags .now) (not-true _ (c .if1 .taken))
+returns c =
+    let entry = c .before .before .before .before .args in
+    not-tried (questionOf (entry .table .now) (entry .frame) (entry .order .now)) (entry .from) (entry .count) (entry .asking) (entry .flags .now) (not-true _ (c .if1 .taken))
 
 fill-requires : tie.Need-fill-requires
-fill-requires c κs = (out-within (c .before .before .before .before .before .args .from) (c .before .before .before .before .before .args .count) (c .before .before .before .before .before .args .flags .now) (c .before .before .before .before .before .pre .1))
+fill-requires c κs =
+    let entry = c .before .before .before .before .before .args in
+    let known = c .before .before .before .before .before .pre in
+    (out-within (entry .from) (entry .count) (entry .flags .now) (known .1))
 
 ask-requires : tie.Need-ask-requires
 ask-requires c κs = search needs
@@ -20,16 +25,29 @@ same-length : tie.Need-same-length
 same-length c = search needs
 
 returns-2 : tie.Need-returns-2
-returns-2 c = tried-and-kept (questionOf (c .before .before .before .before .before .before .before .before .before .before .before .args .table .now) (c .before .before .before .before .before .before .before .before .before .before .before .args .frame) (c .before .before .before .before .before .before .before .before .before .before .before .args .order .now)) (c .before .before .before .before .before .before .before .before .before .before .before .args .from) (c .before .before .before .before .before .before .before .before .before .before .before .args .count) (c .before .before .before .before .before .before .before .before .before .before .before .args .asking) (c .before .before .before .before .before .before .before .before .before .before .before .args .flags .now) (not-false _ (c .before .before .before .before .before .before .before .if1 .left)) _ (c .before .ask .result) (c .before .before .before .before .before .fill .ensures) (c .before .ask .ensures) (c .if2 .taken)
+returns-2 c =
+    let entry = c .before .before .before .before .before .before .before .before .before .before .before .before .before .args in
+    let if1 = c .before .before .before .before .before .before .before .before .before .if1 in
+    let fill = c .before .before .before .before .before .before .before .fill in
+    tried-and-kept (questionOf (entry .table .now) (entry .frame) (entry .order .now)) (entry .from) (entry .count) (entry .asking) (entry .flags .now) (not-false _ (if1 .left)) _ (c .before .ask .result) (fill .ensures) (c .before .ask .ensures) (c .if2 .taken)
 
 fill-requires-2 : tie.Need-fill-requires-2
-fill-requires-2 c κs = omega (arith, (out-within (c .before .before .before .before .before .before .before .before .before .before .before .before .args .from) (c .before .before .before .before .before .before .before .before .before .before .before .before .args .count) (c .before .before .before .before .before .before .before .before .before .before .before .before .args .flags .now) (c .before .before .before .before .before .before .before .before .before .before .before .before .pre .1)), c .before .before .before .before .before .before .fill .kept .0)
+fill-requires-2 c κs =
+    let entry = c .before .before .before .before .before .before .before .before .before .before .before .before .before .before .args in
+    let known = c .before .before .before .before .before .before .before .before .before .before .before .before .before .before .pre in
+    let fill = c .before .before .before .before .before .before .before .before .fill in
+    omega (arith, (out-within (entry .from) (entry .count) (entry .flags .now) (known .1)), fill .kept .0)
 
 same-length-2 : tie.Need-same-length-2
 same-length-2 c = search needs
 
 returns-3 : tie.Need-returns-3
-returns-3 c = tried-and-left-out (questionOf (c .before .before .before .before .before .before .before .before .before .before .before .before .before .before .before .args .table .now) (c .before .before .before .before .before .before .before .before .before .before .before .before .before .before .before .args .frame) (c .before .before .before .before .before .before .before .before .before .before .before .before .before .before .before .args .order .now)) (c .before .before .before .before .before .before .before .before .before .before .before .before .before .before .before .args .from) (c .before .before .before .before .before .before .before .before .before .before .before .before .before .before .before .args .count) (c .before .before .before .before .before .before .before .before .before .before .before .before .before .before .before .args .asking) (c .before .before .before .before .before .before .before .before .before .before .before .before .before .before .before .args .flags .now) (not-false _ (c .before .before .before .before .before .before .before .before .before .before .before .if1 .left)) _ (c .before .before .before .before .before .ask .result) (c .before .before .before .before .before .before .before .before .before .fill .ensures) (c .before .before .before .before .before .ask .ensures) _ (c .before .before .fill2 .ensures) (c .before .before .before .before .if2 .left)
+returns-3 c =
+    let entry = c .before .before .before .before .before .before .before .before .before .before .before .before .before .before .before .before .before .args in
+    let if1 = c .before .before .before .before .before .before .before .before .before .before .before .before .before .if1 in
+    let fill = c .before .before .before .before .before .before .before .before .before .before .before .fill in
+    let ask = c .before .before .before .before .before .ask in
+    tried-and-left-out (questionOf (entry .table .now) (entry .frame) (entry .order .now)) (entry .from) (entry .count) (entry .asking) (entry .flags .now) (not-false _ (if1 .left)) _ (ask .result) (fill .ensures) (ask .ensures) _ (c .before .before .fill2 .ensures) (c .before .before .before .before .if2 .left)
 
 pub stands-whole-spec : {M : Type 1} → statement M
 stands-whole-spec =

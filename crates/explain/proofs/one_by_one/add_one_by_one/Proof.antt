@@ -9,28 +9,36 @@ use Rattle.explain.proofs.one_by_one.add_one_by_one.Statement.{statemen
 use Rattle.explain.proofs.one_by_one.add_one_by_one.Tie as tie
 
 abbrev Inv-loop : tie.InvT-loop
-Inv-loop table frame order flags₀ count asked₀ place₀ flags asked place = Adding (questionOf table frame order) count flags asked place
+Inv-loop table frame order flags₀ chosen₀ places₀ count asked₀ place₀ flags chosen places asked place = Adding (questionOf table frame order) count flags asked place
 
 abbrev μ-loop : tie.MeasureT-loop
-μ-loop table frame order flags₀ count asked₀ place₀ flags asked place = count - place
+μ-loop table frame order flags₀ chosen₀ places₀ count asked₀ place₀ flags chosen places asked place = count - place
 
 fill-requires : tie.Need-fill-requires Inv-loop μ-loop
 fill-requires c κs = omega arith
 
 loop-holds : tie.Need-loop-holds Inv-loop μ-loop
-loop-holds c = adding-begins (questionOf (c .before .before .before .before .before .before .before .args .table .now) (c .before .before .before .before .before .before .before .args .frame) (c .before .before .before .before .before .before .before .args .order .now)) (c .before .before .before .before .before .before .before .args .flags .now) _ (c .before .before .fill .ensures)
+loop-holds c =
+    let entry = c .before .before .before .before .before .before .before .args in
+    adding-begins (questionOf (entry .table .now) (entry .frame) (entry .order .now)) (entry .flags .now) _ (c .before .before .fill .ensures)
 
 slice-write-flags : tie.Need-slice-write-flags Inv-loop μ-loop
 slice-write-flags c = omega (arith, c .before .loop .inv .long)
 
 ask-requires : tie.Need-ask-requires Inv-loop μ-loop
-ask-requires c κs = relent _ (c .before .before .before .before .before .before .before .before .before .before .pre) (simp length-set (c .before .before .loop .inv .long))
+ask-requires c κs =
+    let known = c .before .before .before .before .before .before .before .before .before .before .before .before .pre in
+    relent _ known (simp length-set (c .before .before .before .before .loop .inv .long))
 
 slice-write-flags-2 : tie.Need-slice-write-flags-2 Inv-loop μ-loop
-slice-write-flags-2 c = simp length-set (omega (arith, c .before .before .before .loop .inv .long))
+slice-write-flags-2 c =
+    let loop = c .before .before .before .before .before .loop in
+    simp length-set (omega (arith, loop .inv .long))
 
 add-asked : tie.Need-add-asked Inv-loop μ-loop
-add-asked c = omega (arith, c .before .before .before .loop .inv .counted)
+add-asked c =
+    let loop = c .before .before .before .before .before .loop in
+    omega (arith, loop .inv .counted)
 
 add-place : tie.Need-add-place Inv-loop μ-loop
 add-place c = omega arith
@@ -39,13 +47,18 @@ loop-less : tie.Need-loop-less Inv-loop μ-loop
 loop-less c = omega arith
 
 loop-again : tie.Need-loop-again Inv-loop μ-loop
-loop-again c = adding-turns (questionOf (c .before .before .before .before .before .before .before .before .before .before .before .args .table .now) (c .before .before .before .before .before .before .before .before .before .before .before .args .frame) (c .before .before .before .before .before .before .before .before .before .before .before .args .order .now)) _ (c .before .before .before .loop .flags) (c .before .before .before .loop .asked) (c .before .before .before .loop .place) (c .before .before .before .loop .inv) (c .before .before .loop-test .taken) (c .ask .result) (c .ask .ensures)
+loop-again c =
+    let entry = c .before .before .before .before .before .before .before .before .before .before .before .before .before .args in
+    let loop = c .before .before .before .before .before .loop in
+    adding-turns (questionOf (entry .table .now) (entry .frame) (entry .order .now)) _ (loop .flags) (loop .asked) (loop .place) (loop .inv) (c .before .before .before .before .loop-test .taken) (c .ask .result) (c .ask .ensures)
 
 same-length : tie.Need-same-length Inv-loop μ-loop
 same-length c = c .before .loop .inv .long
 
 returns : tie.Need-returns Inv-loop μ-loop
-returns c = adding-done (questionOf (c .before .before .before .before .before .before .before .before .before .args .table .now) (c .before .before .before .before .before .before .before .before .before .args .frame) (c .before .before .before .before .before .before .before .before .before .args .order .now)) _ (c .before .loop .flags) (c .before .loop .asked) (c .before .loop .place) (c .before .loop .inv) (c .loop-test .left)
+returns c =
+    let entry = c .before .before .before .before .before .before .before .before .before .args in
+    adding-done (questionOf (entry .table .now) (entry .frame) (entry .order .now)) _ (c .before .loop .flags) (c .before .loop .asked) (c .before .loop .place) (c .before .loop .inv) (c .loop-test .left)
 
 pub add-one-by-one-spec : {M : Type 1} → statement M
 add-one-by-one-spec =

@@ -9,16 +9,18 @@ use Rattle.explain.proofs.one_by_one.remove_one_by_one.Statement.{state
 use Rattle.explain.proofs.one_by_one.remove_one_by_one.Tie as tie
 
 abbrev Inv-loop : tie.InvT-loop
-Inv-loop table frame order flags₀ count asked₀ left₀ flags asked left = Removing (questionOf table frame order) count flags asked left
+Inv-loop table frame order flags₀ chosen₀ places₀ count asked₀ left₀ flags chosen places asked left = Removing (questionOf table frame order) count flags asked left
 
 abbrev μ-loop : tie.MeasureT-loop
-μ-loop table frame order flags₀ count asked₀ left₀ flags asked left = left
+μ-loop table frame order flags₀ chosen₀ places₀ count asked₀ left₀ flags chosen places asked left = left
 
 fill-requires : tie.Need-fill-requires Inv-loop μ-loop
 fill-requires c κs = omega arith
 
 loop-holds : tie.Need-loop-holds Inv-loop μ-loop
-loop-holds c = removing-begins (questionOf (c .before .before .before .before .before .before .before .args .table .now) (c .before .before .before .before .before .before .before .args .frame) (c .before .before .before .before .before .before .before .args .order .now)) (c .before .before .before .before .before .before .before .args .flags .now) _ (c .before .before .fill .ensures)
+loop-holds c =
+    let entry = c .before .before .before .before .before .before .before .args in
+    removing-begins (questionOf (entry .table .now) (entry .frame) (entry .order .now)) (entry .flags .now) _ (c .before .before .fill .ensures)
 
 sub-left : tie.Need-sub-left Inv-loop μ-loop
 sub-left c = omega arith
@@ -27,25 +29,36 @@ slice-write-flags : tie.Need-slice-write-flags Inv-loop μ-loop
 slice-write-flags c = omega (arith, c .before .loop .inv .long, c .before .loop .inv .counted)
 
 ask-requires : tie.Need-ask-requires Inv-loop μ-loop
-ask-requires c κs = relent _ (c .before .before .before .before .before .before .before .before .before .before .pre) (simp length-set (c .before .before .loop .inv .long))
+ask-requires c κs =
+    let known = c .before .before .before .before .before .before .before .before .before .before .before .before .pre in
+    relent _ known (simp length-set (c .before .before .before .before .loop .inv .long))
 
 slice-write-flags-2 : tie.Need-slice-write-flags-2 Inv-loop μ-loop
-slice-write-flags-2 c = simp length-set (omega (arith, c .before .before .before .loop .inv .long, c .before .before .before .loop .inv .counted))
+slice-write-flags-2 c =
+    let loop = c .before .before .before .before .before .loop in
+    simp length-set (omega (arith, loop .inv .long, loop .inv .counted))
 
 add-asked : tie.Need-add-asked Inv-loop μ-loop
-add-asked c = omega (arith, c .before .before .before .loop .inv .counted)
+add-asked c =
+    let loop = c .before .before .before .before .before .loop in
+    omega (arith, loop .inv .counted)
 
 loop-less : tie.Need-loop-less Inv-loop μ-loop
 loop-less c = omega arith
 
 loop-again : tie.Need-loop-again Inv-loop μ-loop
-loop-again c = removing-turns (questionOf (c .before .before .before .before .before .before .before .before .before .before .before .args .table .now) (c .before .before .before .before .before .before .before .before .before .before .before .args .frame) (c .before .before .before .before .before .before .before .before .before .before .before .args .order .now)) _ (c .before .before .before .loop .flags) (c .before .before .before .loop .asked) (c .before .before .before .loop .left) (c .before .before .before .loop .inv) (c .before .before .loop-test .taken) (c .ask .result) (c .ask .ensures)
+loop-again c =
+    let entry = c .before .before .before .before .before .before .before .before .before .before .before .before .before .args in
+    let loop = c .before .before .before .before .before .loop in
+    removing-turns (questionOf (entry .table .now) (entry .frame) (entry .order .now)) _ (loop .flags) (loop .asked) (loop .left) (loop .inv) (c .before .before .before .before .loop-test .taken) (c .ask .result) (c .ask .ensures)
 
 same-length : tie.Need-same-length Inv-loop μ-loop
 same-length c = c .before .loop .inv .long
 
 returns : tie.Need-returns Inv-loop μ-loop
-returns c = removing-done (questionOf (c .before .before .before .before .before .before .before .before .before .args .table .now) (c .before .before .before .before .before .before .before .before .before .args .frame) (c .before .before .before .before .before .before .before .before .before .args .order .now)) _ (c .before .loop .flags) (c .before .loop .asked) (c .before .loop .left) (c .before .loop .inv) (c .loop-test .left)
+returns c =
+    let entry = c .before .before .before .before .before .before .before .before .before .args in
+    removing-done (questionOf (entry .table .now) (entry .frame) (entry .order .now)) _ (c .before .loop .flags) (c .before .loop .asked) (c .before .loop .left) (c .before .loop .inv) (c .loop-test .left)
 
 pub remove-one-by-one-spec : {M : Type 1} → statement M
 remove-one-by-one-spec =

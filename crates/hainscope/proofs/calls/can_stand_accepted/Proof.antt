@@ -18,10 +18,14 @@ one-for-requires : tie.Need-one-for-requires
 one-for-requires c κs = search needs
 
 returns : tie.Need-returns
-returns c = told-too-much (c .before .before .before .before .args .table .now) (c .before .before .before .before .args .frame) (c .before .before .before .before .args .selection) (sym (c .enum-told .given .1) ∙ c .before .before .ask-selection .ensures)
+returns c =
+    let entry = c .before .before .before .before .args in
+    told-too-much (entry .table .now) (entry .frame) (entry .selection) (sym (c .enum-told .given .1) ∙ c .before .before .ask-selection .ensures)
 
 returns-2 : tie.Need-returns-2
-returns-2 c = told-answer (c .before .before .before .before .before .before .args .table .now) (c .before .before .before .before .before .before .args .frame) (c .before .before .before .before .before .before .args .selection) _ (c .one-for .result) (sym (c .before .before .found .given .1) ∙ c .before .before .before .before .ask-selection .ensures) (c .one-for .ensures)
+returns-2 c =
+    let entry = c .before .before .before .before .before .before .args in
+    told-answer (entry .table .now) (entry .frame) (entry .selection) _ (c .one-for .result) (sym (c .before .before .found .given .1) ∙ c .before .before .before .before .ask-selection .ensures) (c .one-for .ensures)
 
 pub can-stand-accepted-spec : {M : Type 1} → statement M
 can-stand-accepted-spec =

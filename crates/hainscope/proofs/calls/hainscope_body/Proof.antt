@@ -15,10 +15,14 @@ enum-known-found-2 : tie.Need-enum-known-found-2
 enum-known-found-2 c = search needs
 
 returns : tie.Need-returns
-returns c = body-found (c .before .before .before .before .before .args .table .now) (c .before .before .before .before .before .args .number) _ _ (sym (c .before .before .before .find-body .ensures) ∙ c .before .found .given .1)
+returns c =
+    let entry = c .before .before .before .before .before .args in
+    body-found (entry .table .now) (entry .number) _ _ (sym (c .before .before .before .find-body .ensures) ∙ c .before .found .given .1)
 
 returns-2 : tie.Need-returns-2
-returns-2 c = body-missing (c .before .before .before .before .before .args .table .now) (c .before .before .before .before .before .args .number) _ (sym (c .before .before .before .find-body .ensures) ∙ c .before .found2 .given .1)
+returns-2 c =
+    let entry = c .before .before .before .before .before .args in
+    body-missing (entry .table .now) (entry .number) _ (sym (c .before .before .before .find-body .ensures) ∙ c .before .found2 .given .1)
 
 pub hainscope-body-spec : {M : Type 1} → statement M
 hainscope-body-spec =

@@ -14,16 +14,23 @@ enum-known-told : tie.Need-enum-known-told
 enum-known-told c = search needs
 
 can-stand-accepted-requires : tie.Need-can-stand-accepted-requires
-can-stand-accepted-requires c κs = accepted-keeps (c .before .before .before .before .before .before .args .table .now) _ (sym (c .before .before .before .before .read .ensures) ∙ c .before .before .told .given .1)
+can-stand-accepted-requires c κs =
+    let entry = c .before .before .before .before .before .before .args in
+    accepted-keeps (entry .table .now) _ (sym (c .before .before .before .before .read .ensures) ∙ c .before .before .told .given .1)
 
 enum-known-told-2 : tie.Need-enum-known-told-2
 enum-known-told-2 c = search needs
 
 returns : tie.Need-returns
-returns c = question-answered (c .before .before .before .before .before .before .before .args .table .now) (c .before .before .before .before .before .before .before .args .selection) _ _ _ (sym (c .before .before .before .before .before .read .ensures) ∙ c .before .before .before .told .given .1) (c .can-stand-accepted .ensures)
+returns c =
+    let entry = c .before .before .before .before .before .before .before .args in
+    let read = c .before .before .before .before .before .read in
+    question-answered (entry .table .now) (entry .selection) _ _ _ (sym (read .ensures) ∙ c .before .before .before .told .given .1) (c .can-stand-accepted .ensures)
 
 returns-2 : tie.Need-returns-2
-returns-2 c = can-stand-refused (c .before .before .before .before .before .args .table .now) (c .before .before .before .before .before .args .selection) _ (sym (c .before .before .before .read .ensures) ∙ c .before .told2 .given .1)
+returns-2 c =
+    let entry = c .before .before .before .before .before .args in
+    can-stand-refused (entry .table .now) (entry .selection) _ (sym (c .before .before .before .read .ensures) ∙ c .before .told2 .given .1)
 
 pub hainscope-can-stand-spec : {M : Type 1} → statement M
 hainscope-can-stand-spec =

@@ -18,7 +18,9 @@ returns : tie.Need-returns
 returns c = read-accepted (c .before .before .before .before .args .table .now) _ (sym (c .before .before .read .ensures) ∙ c .enum-told .given .1)
 
 returns-2 : tie.Need-returns-2
-returns-2 c = read-refused (c .before .before .before .before .before .args .table .now) _ (sym (c .before .before .before .read .ensures) ∙ c .before .told .given .1)
+returns-2 c =
+    let entry = c .before .before .before .before .before .args in
+    read-refused (entry .table .now) _ (sym (c .before .before .before .read .ensures) ∙ c .before .told .given .1)
 
 pub hainscope-read-spec : {M : Type 1} → statement M
 hainscope-read-spec =

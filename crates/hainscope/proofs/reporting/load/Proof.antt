@@ -42,13 +42,18 @@ loop-less : tie.Need-loop-less Inv-loop μ-loop
 loop-less c = omega arith
 
 loop-again : tie.Need-loop-again Inv-loop μ-loop
-loop-again c = (omega arith, omega arith, simp length-set (c .before .before .loop .inv .2), load-turn (c .before .before .loop .left) (c .before .before .loop .at) (c .before .before .loop .place) (c .word .result) (c .before .before .before .before .before .args .table .now) (c .before .before .loop .order) (c .before .loop-test .taken) (c .word .ensures .0) ∙ c .before .before .loop .inv .3)
+loop-again c =
+    let entry = c .before .before .before .before .before .args in
+    let loop = c .before .before .loop in
+    (omega arith, omega arith, simp length-set (loop .inv .2), load-turn (loop .left) (loop .at) (loop .place) (c .word .result) (entry .table .now) (loop .order) (c .before .loop-test .taken) (c .word .ensures .0) ∙ loop .inv .3)
 
 same-length : tie.Need-same-length Inv-loop μ-loop
 same-length c = c .before .loop .inv .2
 
 returns : tie.Need-returns Inv-loop μ-loop
-returns c = load-done (c .before .loop .left) (c .before .loop .at) (c .before .loop .place) (c .before .before .before .before .args .table .now) (c .before .loop .order) (c .before .before .before .before .args .order .now) (c .before .before .before .before .args .from) (c .loop-test .left) (c .before .loop .inv .3)
+returns c =
+    let entry = c .before .before .before .before .args in
+    load-done (c .before .loop .left) (c .before .loop .at) (c .before .loop .place) (entry .table .now) (c .before .loop .order) (entry .order .now) (entry .from) (c .loop-test .left) (c .before .loop .inv .3)
 
 pub load-spec : {M : Type 1} → statement M
 load-spec =

@@ -14,7 +14,10 @@ enum-known-told : tie.Need-enum-known-told
 enum-known-told c = search needs
 
 report-accepted-requires : tie.Need-report-accepted-requires
-report-accepted-requires c κs = accepted-keeps (c .before .before .before .before .before .before .before .before .args .table .now) _ (sym (c .before .before .before .before .before .read .ensures) ∙ c .before .before .before .told .given .1)
+report-accepted-requires c κs =
+    let entry = c .before .before .before .before .before .before .before .before .args in
+    let read = c .before .before .before .before .before .read in
+    accepted-keeps (entry .table .now) _ (sym (read .ensures) ∙ c .before .before .before .told .given .1)
 
 enum-known-told-2 : tie.Need-enum-known-told-2
 enum-known-told-2 c = search needs
@@ -23,10 +26,16 @@ same-length : tie.Need-same-length
 same-length c = search needs
 
 returns : tie.Need-returns
-returns c = report-kept (c .before .before .before .before .before .before .before .before .before .before .before .args .method) (c .before .before .before .before .before .before .before .before .before .before .before .args .table .now) (c .before .before .before .before .before .before .before .before .before .before .before .args .buffer .now) (c .before .before .before .before .before .before .before .before .before .before .before .args .start) _ _ _ _ (sym (c .before .before .before .before .before .before .before .before .read .ensures) ∙ c .before .before .before .before .before .before .told .given .1) (c .before .before .report-accepted .ensures)
+returns c =
+    let entry = c .before .before .before .before .before .before .before .before .before .before .before .args in
+    let read = c .before .before .before .before .before .before .before .before .read in
+    let told = c .before .before .before .before .before .before .told in
+    report-kept (entry .method) (entry .table .now) (entry .buffer .now) (entry .start) _ _ _ _ (sym (read .ensures) ∙ told .given .1) (c .before .before .report-accepted .ensures)
 
 returns-2 : tie.Need-returns-2
-returns-2 c = report-refused (c .before .before .before .before .before .before .args .method) (c .before .before .before .before .before .before .args .table .now) (c .before .before .before .before .before .before .args .buffer .now) (c .before .before .before .before .before .before .args .start) _ (sym (c .before .before .before .read .ensures) ∙ c .before .told2 .given .1)
+returns-2 c =
+    let entry = c .before .before .before .before .before .before .args in
+    report-refused (entry .method) (entry .table .now) (entry .buffer .now) (entry .start) _ (sym (c .before .before .before .read .ensures) ∙ c .before .told2 .given .1)
 
 pub make-report-spec : {M : Type 1} → statement M
 make-report-spec =

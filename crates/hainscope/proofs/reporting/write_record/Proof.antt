@@ -18,10 +18,16 @@ array-borrow-prefix-flags : tie.Need-array-borrow-prefix-flags
 array-borrow-prefix-flags c = search needs
 
 slice-aggregate-write-answer-2 : tie.Need-slice-aggregate-write-answer-2
-slice-aggregate-write-answer-2 c = sym (length-take-le (c .before .before .before .before .before .args .frame .requests) (replicate mostRequests false) (c .before .before .before .before .before .pre .kept .few-requests))
+slice-aggregate-write-answer-2 c =
+    let entry = c .before .before .before .before .before .args in
+    let known = c .before .before .before .before .before .pre in
+    sym (length-take-le (entry .frame .requests) (replicate mostRequests false) (known .kept .few-requests))
 
 write-answer-requires : tie.Need-write-answer-requires
-write-answer-requires c κs = (c .before .before .before .before .before .pre, length-take-le (c .before .before .before .before .before .args .frame .requests) (replicate mostRequests 0) (c .before .before .before .before .before .pre .kept .few-requests), length-take-le (c .before .before .before .before .before .args .frame .requests) (replicate mostRequests false) (c .before .before .before .before .before .pre .kept .few-requests))
+write-answer-requires c κs =
+    let entry = c .before .before .before .before .before .before .before .args in
+    let known = c .before .before .before .before .before .before .before .pre in
+    (known, length-take-le (entry .frame .requests) (replicate mostRequests 0) (known .kept .few-requests), length-take-le (entry .frame .requests) (replicate mostRequests false) (known .kept .few-requests))
 
 same-length : tie.Need-same-length
 same-length c = search needs

@@ -1,6 +1,6 @@
 -- `hainscope::selecting::ask_selection` meets its contract.
 use mathlib.Core.Path.{sym}
-use Rattle.explain.proofs.Questions.{fresh-length}
+use Rattle.hainscope.proofs.Spreading.{entries-length}
 use borrow.Author.Needs.{needs}
 use Rattle.hainscope.proofs.selecting.ask_selection.Statement.{statement}
 use Rattle.hainscope.proofs.selecting.ask_selection.Tie as tie
@@ -12,10 +12,12 @@ array-borrow-prefix-chosen : tie.Need-array-borrow-prefix-chosen
 array-borrow-prefix-chosen c = search needs
 
 slice-aggregate-ask-spread : tie.Need-slice-aggregate-ask-spread
-slice-aggregate-ask-spread c = sym (fresh-length (c .before .before .before .args .frame) (c .before .before .before .pre .few-requests))
+slice-aggregate-ask-spread c = sym (entries-length (c .before .before .before .args .frame) (c .before .before .before .pre .few-requests))
 
 ask-spread-requires : tie.Need-ask-spread-requires
-ask-spread-requires c κs = (c .before .before .before .pre, fresh-length (c .before .before .before .args .frame) (c .before .before .before .pre .few-requests))
+ask-spread-requires c κs =
+    let known = c .before .before .before .before .pre in
+    (known, entries-length (c .before .before .before .before .args .frame) (known .few-requests))
 
 returns : tie.Need-returns
 returns c = search needs

@@ -15,19 +15,36 @@ spread-requires : tie.Need-spread-requires
 spread-requires c κs = simp length-set (omega arith)
 
 same-length : tie.Need-same-length
-same-length c = c .before .before .before .spread .kept .1 .0 ∙ length-set (c .before .before .before .before .before .before .before .args .chosen .now) 0 true
+same-length c =
+    let entry = c .before .before .before .before .before .before .before .args in
+    c .before .before .before .spread .kept .1 .0 ∙ length-set (entry .chosen .now) 0 true
 
 returns : tie.Need-returns
-returns c = names-too-much (c .before .before .before .before .before .before .before .args .table .now) (c .before .before .before .before .before .before .before .args .frame) (c .before .before .before .before .before .before .before .args .selection) (c .before .before .before .before .before .before .before .args .chosen .now) _ (c .before .before .before .before .before .before .before .pre .0) (c .before .before .before .before .before .before .before .pre .1) (c .before .before .before .spread .result) (c .before .before .before .spread .ensures) (c .if1 .taken)
+returns c =
+    let entry = c .before .before .before .before .before .before .before .args in
+    let known = c .before .before .before .before .before .before .before .pre in
+    let spread = c .before .before .before .spread in
+    names-too-much (entry .table .now) (entry .frame) (entry .selection) (entry .chosen .now) _ (known .0) (known .1) (spread .result) (spread .ensures) (c .if1 .taken)
 
 can-stand-requires : tie.Need-can-stand-requires
-can-stand-requires c κs = may-ask (c .before .before .before .before .before .before .before .before .args .table .now) (c .before .before .before .before .before .before .before .before .args .frame) (c .before .before .before .before .before .before .before .before .args .selection) (c .before .before .before .before .before .before .before .before .args .chosen .now) _ (c .before .before .before .before .before .before .before .before .pre .0) (c .before .before .before .before .before .before .before .before .pre .1) (c .before .before .before .before .spread .result) (c .before .before .before .before .spread .ensures)
+can-stand-requires c κs =
+    let entry = c .before .before .before .before .before .before .before .before .before .args in
+    let known = c .before .before .before .before .before .before .before .before .before .pre in
+    let spread = c .before .before .before .before .before .spread in
+    may-ask (entry .table .now) (entry .frame) (entry .selection) (entry .chosen .now) _ (known .0) (known .1) (spread .result) (spread .ensures)
 
 same-length-2 : tie.Need-same-length-2
-same-length-2 c = c .before .before .before .before .before .spread .kept .1 .0 ∙ length-set (c .before .before .before .before .before .before .before .before .before .args .chosen .now) 0 true
+same-length-2 c =
+    let entry = c .before .before .before .before .before .before .before .before .before .before .args in
+    let spread = c .before .before .before .before .before .before .spread in
+    spread .kept .1 .0 ∙ length-set (entry .chosen .now) 0 true
 
 returns-2 : tie.Need-returns-2
-returns-2 c = told-is (c .before .before .before .before .before .before .before .before .before .args .table .now) (c .before .before .before .before .before .before .before .before .before .args .frame) (c .before .before .before .before .before .before .before .before .before .args .selection) (c .before .before .before .before .before .before .before .before .before .args .chosen .now) _ (c .before .before .before .before .before .before .before .before .before .pre .0) (c .before .before .before .before .before .before .before .before .before .pre .1) (c .before .before .before .before .before .spread .result) (c .before .before .before .before .before .spread .ensures) (c .before .before .if1 .left) (c .can-stand .result) (c .can-stand .ensures)
+returns-2 c =
+    let entry = c .before .before .before .before .before .before .before .before .before .before .args in
+    let known = c .before .before .before .before .before .before .before .before .before .before .pre in
+    let spread = c .before .before .before .before .before .before .spread in
+    told-is (entry .table .now) (entry .frame) (entry .selection) (entry .chosen .now) _ (known .0) (known .1) (spread .result) (spread .ensures) (c .before .before .before .if1 .left) (c .can-stand .result) (c .can-stand .ensures)
 
 pub ask-spread-spec : {M : Type 1} → statement M
 ask-spread-spec =

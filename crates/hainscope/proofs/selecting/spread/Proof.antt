@@ -41,7 +41,9 @@ same-length : tie.Need-same-length Inv-loop μ-loop
 same-length c = c .before .loop .inv .1
 
 returns : tie.Need-returns Inv-loop μ-loop
-returns c = spread-done (c .before .loop .left) (c .before .loop .rest) (c .before .loop .request) (c .before .loop .chosen) (c .before .before .args .chosen .now) (c .before .before .args .selection) (c .loop-test .left) (c .before .before .pre) (c .before .loop .inv .2) (c .before .loop .inv .3)
+returns c =
+    let entry = c .before .before .args in
+    spread-done (c .before .loop .left) (c .before .loop .rest) (c .before .loop .request) (c .before .loop .chosen) (entry .chosen .now) (entry .selection) (c .loop-test .left) (c .before .before .pre) (c .before .loop .inv .2) (c .before .loop .inv .3)
 
 pub spread-spec : {M : Type 1} → statement M
 spread-spec =
