@@ -8,15 +8,17 @@ use lib.Dec.{ltb}
 use lib.ListN.{length, getD, set, length-set}
 use borrow.Author.Tests.{ltb-true, ltb-false}
 use Rattle.meaning.specs.HalfMade.{Values, undecided}
+use Rattle.meaning.specs.WholeRows.{RowsAsked}
 use Rattle.meaning.proofs.HalfMade.{fewer-undecided}
 use Rattle.question.specs.Completing.{Completed, MeetsFirst}
 use Rattle.question.specs.Looking.{LeftOpen, Looked}
 use Rattle.question.specs.declared.looking.Seen.{Seen}
 use Rattle.question.specs.declared.looking.Seen.the-variants.{Fails, Met, Open}
-use Rattle.question.specs.Trail.{decisions, TakenBack}
+use Rattle.question.specs.Trail.{decisions, TrailLent, TakenBack}
 use Rattle.question.specs.declared.looking.Decision.{Decision}
+use Rattle.question.proofs.Rearranging.{asked-open}
 use Rattle.question.proofs.Decisions.{back-keeps, back-waits, length-decisions, decisions-last, decisions-more, decisions-turned}
-use Rattle.question.proofs.Branches.{nodes, ahead, openIn, Waits, Trail}
+use Rattle.question.proofs.Branches.{nodes, ahead, openIn, Waits, Trail, trail-length}
 use Rattle.question.proofs.Searching.{Reached, Failed, reached-start, found-all, branch-fails, decided-next, fewer-nodes, failed-back, none-left, last-waits, turned, fewer-turned}
 
 module _ (t start : List ℕ) (noted : ℕ) (base : Values) (variables waiting : List ℕ) where
@@ -28,6 +30,18 @@ module _ (t start : List ℕ) (noted : ℕ) (base : Values) (variables waiting :
   -- at most all variables are decided
   pub depth-most : (places : List ℕ) (depth count : ℕ) (values : Values) → Reached t start noted base places (decisions variables waiting depth) count values → depth ≤ length base
   depth-most places depth count values reached = omega (arith, reached .room, length-decisions variables waiting depth)
+
+  -- the rows may be looked at
+  pub may-look :
+      (places : List ℕ) (depth count : ℕ) (values : Values) →
+      Reached t start noted base places (decisions variables waiting depth) count values →
+      length places ≡ length start →
+      RowsAsked t start noted (length base) →
+      length base < 65536 →
+      RowsAsked t places count (length values) × (length values < 65536)
+  may-look places depth count values reached same asked few =
+      rw (trail-length t start noted base places (decisions variables waiting depth) count values (reached .path))
+      (asked-open t start places noted count (length base) (reached .moved) same (reached .here .few) asked, few)
 
   module _ (places : List ℕ) (depth count : ℕ) (values : Values) (reached : Reached t start noted base places (decisions variables waiting depth) count values) (after : List ℕ) (seen : Seen) (looked : Looked t values count places after seen) where
     -- the rows are met
@@ -43,7 +57,7 @@ module _ (t start : List ℕ) (noted : ℕ) (base : Values) (variables waiting :
     look-fails e = branch-fails t start noted base places (decisions variables waiting depth) count values reached after (looked .rearranged) (rw e at (looked .tells))
 
   -- each decision is over a variable that there is
-  pub trail-inside :
+  trail-inside :
       (places : List ℕ) (depth count : ℕ) (values : Values) → Trail t start noted base places (decisions variables waiting depth) count values → (k : ℕ) → k < depth → getD variables k 0 < length values
   unfolding Trail decisions
   trail-inside places zero count values path k h = absurd (omega arith)
@@ -53,6 +67,20 @@ module _ (t start : List ℕ) (noted : ℕ) (base : Values) (variables waiting :
       go : (less : Bool) → ltb k depth ≡ less → (k < depth → getD variables k 0 < length (set values (getD variables depth 0) 2)) → getD variables k 0 < length values
       go true p earlier = simp length-set at (earlier (ltb-true k depth p))
       go false p earlier = let e : k ≡ depth = let above : depth ≤ k = ltb-false k depth p in omega arith in rw e (waits .inside)
+
+  -- decisions may be taken back
+  pub may-take-back :
+      (places : List ℕ) (depth count : ℕ) (values : Values) →
+      Reached t start noted base places (decisions variables waiting depth) count values →
+      length base ≤ length variables →
+      length base ≤ length waiting →
+      TrailLent values variables waiting depth
+  may-take-back places depth count values reached few few-waiting =
+      record {
+        few = omega (arith, depth-most places depth count values reached);
+        few-waiting = omega (arith, depth-most places depth count values reached);
+        inside = trail-inside places depth count values (reached .path);
+      }
 
   module _ (many : ℕ) (places : List ℕ) (count depth left : ℕ) (values now-values : Values) (failed : Failed t start noted base many places count (decisions variables waiting depth) values) (taken : TakenBack variables waiting depth left values now-values) where
     failed-taken : Failed t start noted base many places count (decisions variables waiting left) now-values

@@ -1,5 +1,5 @@
 use mathlib.Core.Path.{_≡_, refl}
-use Prim.Native.Nat.{_-_, _<_}
+use Prim.Native.Nat.{_-_}
 use lib.ListN.{length, length-set}
 use native.Mathlib.Omega.{arith}
 use borrow.Author.Needs.{needs}
@@ -58,8 +58,9 @@ cast-variable c = omega (arith, c .shared-slice-known2 .given (c .before .before
 -- src/trail.rt:20:9
 slice-write-values : tie.Need-slice-write-values Inv-loop μ-loop
 slice-write-values c =
-    let below : c .before .before .before .before .loop .left - 1 < c .before .before .before .before .before .args .depth = omega (arith, c .before .before .before .before .loop .inv .1 .few) in
-    omega (arith, c .before .before .before .before .before .pre .inside (c .before .before .before .before .loop .left - 1) below, c .before .before .before .before .loop .inv .0)
+    let known = c .before .before .before .before .before .pre in
+    let loop = c .before .before .before .before .loop in
+    omega (arith, known .inside (loop .left - 1) (omega (arith, loop .inv .1 .few)), loop .inv .0)
 
 -- src/trail.rt:21:16
 sub-left : tie.Need-sub-left Inv-loop μ-loop
