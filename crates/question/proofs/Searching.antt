@@ -1,6 +1,6 @@
 -- How far the search has come: the branch at hand, and those still to be tried, miss no completion.
 use Prim.Native.Nat.{ℕ, zero, suc, _+_, _-_, _<_, _≤_}
-use mathlib.Core.Path.{_≡_, refl, sym, ap, _∙_}
+use mathlib.Core.Path.{_≡_, refl}
 use mathlib.Core.Logic.{_⊎_, inl, inr, ⊎-elim}
 use mathlib.Core.Bool.{Bool, true, false, cond}
 use mathlib.Core.List.{List, [], _∷_}
@@ -10,7 +10,7 @@ use lib.ListN.{length, getD, set, length-set}
 use lib.Seq.{set-set, getD-set-same}
 use borrow.Author.Tests.{eq-eqb, ne-eqb}
 use Rattle.meaning.specs.Meaning.{Setting}
-use Rattle.meaning.specs.HalfMade.{Values, isFree, Agrees, undecided}
+use Rattle.meaning.specs.HalfMade.{Values, Agrees, undecided}
 use Rattle.meaning.proofs.HalfMade.{agrees-freed, agrees-with, agrees-without, set-back, one-or-other, undecided-most, undecided-changed, undecided-turned, fewer-undecided}
 use Rattle.question.specs.Rearranging.{Rearranged}
 use Rattle.question.specs.Completing.{Completion, MeetsFirst}
@@ -19,7 +19,7 @@ use Rattle.question.specs.Trail.{Decided}
 use Rattle.question.specs.declared.looking.Decision.{Decision}
 use Rattle.question.proofs.Rearranging.{rearranged-not, rearranged-twice, rearranged-within}
 use Rattle.question.proofs.Seeing.{passing-too, met-before, met-after, met-whole}
-use Rattle.question.proofs.Branches.{nodes, ahead, openIn, Decides, Waits, Trail, Pending, trail-moved, trail-fewer, trail-agrees, trail-length}
+use Rattle.question.proofs.Branches.{nodes, ahead, openIn, Decides, Waits, Trail, Pending, trail-moved, trail-fewer, trail-agrees}
 
 -- two trees over fewer variables have fewer nodes
 some-nodes : (variables : ℕ) → 1 ≤ nodes variables

@@ -15,7 +15,7 @@ use Rattle.question.specs.declared.looking.Seen.the-variants.{Fails, Met
 use Rattle.question.specs.Rearranging.{Among, Rearranged}
 use Rattle.question.specs.Completing.{Completion, MeetsAt, MeetsFirst}
 use Rattle.question.specs.Narrowing.{Reduced, Narrowed}
-use Rattle.question.specs.Looking.{LeftOpen, Looked}
+use Rattle.question.specs.Looking.{Looked}
 use Rattle.question.proofs.Rearranging.{rearranged-twice, rearranged-within}
 
 -- a completion stays one for a test that passes where the other does

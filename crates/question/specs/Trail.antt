@@ -17,6 +17,12 @@ unfoldable pub decisions : List ℕ → List ℕ → ℕ → List Decided
 decisions variables waiting zero = []
 decisions variables waiting (suc depth) = record { variable = getD variables depth 0; waiting = getD waiting depth 0 } ∷ decisions variables waiting depth
 
+-- a trail has room for a decision of each variable
+pub record TrailRoom (values : Values) (variables waiting : List ℕ) : Type 0 where
+  pub numbered : length values < 65536
+  pub each : length values ≤ length variables
+  pub each-waiting : length values ≤ length waiting
+
 -- a trail of so many decisions, each over a variable that there is
 pub record TrailLent (values : Values) (variables waiting : List ℕ) (depth : ℕ) : Type 0 where
   pub few : depth ≤ length variables

@@ -1,13 +1,14 @@
 // The search: a variable that the open rows need most is decided next, and a look at the rows ends a branch as soon as no completion meets
 // some row, or no row is open. The branches that are still to be tried stand in the trail, so that the search is one loop.
 ghost use mathlib.Core.Path.{_≡_};
-ghost use Prim.Native.Nat.{_<_, _≤_};
+ghost use Prim.Native.Nat.{_<_};
 ghost use lib.ListN.{length};
 ghost use Rattle.table.specs.Kept.{rowsOf};
 ghost use Rattle.meaning.specs.Stands.{stands, byRole};
 ghost use Rattle.meaning.specs.WholeRows.{RowsAsked};
 ghost use Rattle.question.specs.Asked.{Asked};
 ghost use Rattle.question.specs.Completing.{Completed, MeetsCounting, MeetsFirst};
+ghost use Rattle.question.specs.Trail.{TrailRoom};
 use crate::looking::Seen;
 use crate::looking::look;
 use crate::places::note_places;
@@ -31,7 +32,7 @@ fn complete(
     variables: &mut [u16],
     waiting: &mut [u16],
 ) -> bool
-    requires { ⌜ RowsAsked (now table) (now places) noted (length (now values)) × (length (now values) < 65536) × (noted < 65536) × (length (now values) ≤ length (now variables)) × (length (now variables) ≡ length (now waiting)) ⌝ }
+    requires { ⌜ RowsAsked (now table) (now places) noted (length (now values)) × (noted < 65536) × TrailRoom (now values) (now variables) (now waiting) ⌝ }
     ensures { λ r. ⌜ Completed (MeetsFirst (now (table .entry)) (now (places .entry)) noted) (now (values .entry)) r ⌝ }
 {
     let mut count = noted;
@@ -78,14 +79,14 @@ pub fn can_complete(
     let mut notes = [0; MOST_NOTES];
     let mut variables = [0; MOST_VARIABLES];
     let mut waiting = [0; MOST_VARIABLES];
-    let count = values.len();
+    let entries = values.len();
     let mut work = [UNDECIDED; MOST_VARIABLES];
     copy(values, &mut work);
     complete(
         table,
         places,
         noted,
-        &mut work[..count],
+        &mut work[..entries],
         &mut notes,
         &mut variables,
         &mut waiting,
@@ -97,7 +98,7 @@ pub fn can_stand(table: &[u8], frame: Frame, chosen: &[bool], places: &mut [u16;
     requires { ⌜ Asked (now table) frame (now chosen) ⌝ }
     ensures { λ r. ⌜ r ≡ stands (rowsOf (now (table .entry)) frame) (frame .variables) (byRole (now (chosen .entry))) ⌝ }
 {
-    let count = frame.variables;
+    let entries = frame.variables;
     let values = [UNDECIDED; MOST_VARIABLES];
-    can_complete(table, frame, chosen, &values[..count], places)
+    can_complete(table, frame, chosen, &values[..entries], places)
 }

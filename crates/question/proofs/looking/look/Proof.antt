@@ -1,4 +1,3 @@
-use native.Mathlib.Omega.{arith}
 use Rattle.meaning.proofs.HalfMade.{free-below}
 use Rattle.question.proofs.Rearranging.{asked-open}
 use Rattle.question.proofs.Seeing.{row-fails, none-open, rows-open, not-met, met-all}

@@ -1,5 +1,5 @@
-use mathlib.Core.Path.{_≡_, sym, ap}
-use lib.ListN.{length, take}
+use mathlib.Core.Path.{sym, ap}
+use lib.ListN.{length}
 use native.Mathlib.Omega.{arith}
 use Rattle.question.proofs.Noting.{noted-asked}
 use Rattle.question.proofs.Answering.{copied, rows-searched}
@@ -54,7 +54,7 @@ complete-requires c κs =
     let known = c .before .before .before .before .before .before .before .before .before .before .before .before .before .pre in
     let note-places = c .before .before .before .before .before .before .before .before .note-places in
     let copy = c .before .before .before .before .before .before .copy in
-    rw (copied (entry .values .now) (copy .last .1 .0) _ (copy .ensures .1)) (noted-asked _ (entry .frame) _ _ _ _ (known .0) (note-places .ensures) (known .1), omega (arith, known .0 .kept .few-variables, known .1), omega arith, omega (arith, known .0 .kept .few-variables, known .1), omega arith)
+    rw (copied (entry .values .now) (copy .last .1 .0) _ (copy .ensures .1)) (noted-asked _ (entry .frame) _ _ _ _ (known .0) (note-places .ensures) (known .1), omega arith, record { numbered = omega (arith, known .0 .kept .few-variables, known .1); each = omega (arith, known .0 .kept .few-variables, known .1); each-waiting = omega (arith, known .0 .kept .few-variables, known .1) })
 
 -- src/search.rt:67:1
 returns : tie.Need-returns

@@ -35,7 +35,7 @@ look-requires c κs =
     let entry = c .before .before .before .before .before .before .before .before .before .before .args in
     let known = c .before .before .before .before .before .before .before .before .before .before .pre in
     let loop = c .before .before .before .loop in
-    may-look (entry .table .now) (entry .places .now) (entry .noted) (entry .values .now) (loop .variables) (loop .waiting) _ _ _ _ (loop .inv .4) (loop .inv .0) (known .0) (known .1)
+    may-look (entry .table .now) (entry .places .now) (entry .noted) (entry .values .now) (loop .variables) (loop .waiting) _ _ _ _ (loop .inv .4) (loop .inv .0) (known .0) (known .2 .numbered)
 
 -- src/search.rt:43:26
 enum-told : tie.Need-enum-told Inv-loop μ-loop
@@ -91,7 +91,7 @@ take-back-requires c κs =
     let entry = c .before .before .before .before .before .before .before .before .before .before .before .before .before .before .before .before .before .before .before .before .args in
     let known = c .before .before .before .before .before .before .before .before .before .before .before .before .before .before .before .before .before .before .before .before .pre in
     let loop = c .before .before .before .before .before .before .before .before .before .before .before .before .before .loop in
-    may-take-back (entry .table .now) (entry .places .now) (entry .noted) (entry .values .now) (loop .variables) (loop .waiting) _ _ _ _ (loop .inv .4) (omega (arith, loop .inv .2, known .3)) (omega (arith, loop .inv .3, known .3, known .4))
+    may-take-back (entry .table .now) (entry .places .now) (entry .noted) (entry .values .now) (loop .variables) (loop .waiting) _ _ _ _ (loop .inv .4) (omega (arith, loop .inv .2, known .2 .each)) (omega (arith, loop .inv .3, known .2 .each-waiting))
 
 -- src/search.rt:47:21
 same-length-6 : tie.Need-same-length-6 Inv-loop μ-loop
@@ -144,7 +144,7 @@ mul-variable c =
     let entry = c .before .before .before .before .before .before .before .before .before .before .before .before .before .before .before .before .before .before .before .before .before .before .before .before .args in
     let known = c .before .before .before .before .before .before .before .before .before .before .before .before .before .before .before .before .before .before .before .before .before .before .before .before .pre in
     let loop = c .before .before .before .before .before .before .before .before .before .before .before .before .before .before .before .before .before .loop in
-    omega (arith, depth-most (entry .table .now) (entry .places .now) (entry .noted) (entry .values .now) (loop .variables) (loop .waiting) _ _ _ _ (loop .inv .4), known .1, c .before .before .before .take-back .ensures .few)
+    omega (arith, depth-most (entry .table .now) (entry .places .now) (entry .noted) (entry .values .now) (loop .variables) (loop .waiting) _ _ _ _ (loop .inv .4), known .2 .numbered, c .before .before .before .take-back .ensures .few)
 
 -- src/search.rt:49:32
 slice-read-variable : tie.Need-slice-read-variable Inv-loop μ-loop
@@ -152,7 +152,7 @@ slice-read-variable c =
     let entry = c .before .before .before .before .before .before .before .before .before .before .before .before .before .before .before .before .before .before .before .before .before .before .before .before .before .args in
     let known = c .before .before .before .before .before .before .before .before .before .before .before .before .before .before .before .before .before .before .before .before .before .before .before .before .before .pre in
     let loop = c .before .before .before .before .before .before .before .before .before .before .before .before .before .before .before .before .before .before .loop in
-    omega (arith, depth-most (entry .table .now) (entry .places .now) (entry .noted) (entry .values .now) (loop .variables) (loop .waiting) _ _ _ _ (loop .inv .4), loop .inv .2, known .3, c .before .before .before .before .take-back .ensures .few, c .before .if1 .left)
+    omega (arith, depth-most (entry .table .now) (entry .places .now) (entry .noted) (entry .values .now) (loop .variables) (loop .waiting) _ _ _ _ (loop .inv .4), loop .inv .2, known .2 .each, c .before .before .before .before .take-back .ensures .few, c .before .if1 .left)
 
 -- src/search.rt:49:32
 cast-variable : tie.Need-cast-variable Inv-loop μ-loop
@@ -172,7 +172,7 @@ turn-requires c κs =
     let enum-told2 = c .before .before .before .before .before .before .before .before .before .before .enum-told2 in
     let take-back = c .before .before .before .before .before .before .take-back in
     let if1 = c .before .before .before .if1 in
-    (last-decision (entry .table .now) (entry .places .now) (entry .noted) (entry .values .now) (loop .variables) (loop .waiting) _ _ _ _ (take-back .result) _ _ (look-fails (entry .table .now) (entry .places .now) (entry .noted) (entry .values .now) (loop .variables) (loop .waiting) _ (loop .depth) (loop .count) (loop .values) (loop .inv .4) _ _ (look .ensures) (enum-told2 .given .1)) (take-back .ensures) (omega (arith, if1 .left)) .inside, last-decision (entry .table .now) (entry .places .now) (entry .noted) (entry .values .now) (loop .variables) (loop .waiting) _ _ _ _ (take-back .result) _ _ (look-fails (entry .table .now) (entry .places .now) (entry .noted) (entry .values .now) (loop .variables) (loop .waiting) _ (loop .depth) (loop .count) (loop .values) (loop .inv .4) _ _ (look .ensures) (enum-told2 .given .1)) (take-back .ensures) (omega (arith, if1 .left)) .bit, omega (arith, depth-most (entry .table .now) (entry .places .now) (entry .noted) (entry .values .now) (loop .variables) (loop .waiting) _ _ _ _ (loop .inv .4), loop .inv .3, known .3, known .4, take-back .ensures .few, if1 .left))
+    (last-decision (entry .table .now) (entry .places .now) (entry .noted) (entry .values .now) (loop .variables) (loop .waiting) _ _ _ _ (take-back .result) _ _ (look-fails (entry .table .now) (entry .places .now) (entry .noted) (entry .values .now) (loop .variables) (loop .waiting) _ (loop .depth) (loop .count) (loop .values) (loop .inv .4) _ _ (look .ensures) (enum-told2 .given .1)) (take-back .ensures) (omega (arith, if1 .left)) .inside, last-decision (entry .table .now) (entry .places .now) (entry .noted) (entry .values .now) (loop .variables) (loop .waiting) _ _ _ _ (take-back .result) _ _ (look-fails (entry .table .now) (entry .places .now) (entry .noted) (entry .values .now) (loop .variables) (loop .waiting) _ (loop .depth) (loop .count) (loop .values) (loop .inv .4) _ _ (look .ensures) (enum-told2 .given .1)) (take-back .ensures) (omega (arith, if1 .left)) .bit, omega (arith, depth-most (entry .table .now) (entry .places .now) (entry .noted) (entry .values .now) (loop .variables) (loop .waiting) _ _ _ _ (loop .inv .4), loop .inv .3, known .2 .each-waiting, take-back .ensures .few, if1 .left))
 
 -- src/search.rt:51:17
 blind-of-requires : tie.Need-blind-of-requires Inv-loop μ-loop
@@ -192,7 +192,7 @@ loop-less c =
     let take-back = c .before .before .before .before .before .before .before .before .before .before .before .before .before .take-back in
     let if1 = c .before .before .before .before .before .before .before .before .before .before .if1 in
     let turn = c .before .before .before .before .before .before .turn in
-    fewer-back (entry .table .now) (entry .places .now) (entry .noted) (entry .values .now) (loop .variables) (loop .waiting) _ _ _ _ (take-back .result) _ _ (look-fails (entry .table .now) (entry .places .now) (entry .noted) (entry .values .now) (loop .variables) (loop .waiting) _ (loop .depth) (loop .count) (loop .values) (loop .inv .4) _ _ (look .ensures) (enum-told2 .given .1)) (take-back .ensures) (omega (arith, if1 .left)) _ _ _ (omega (arith, depth-most (entry .table .now) (entry .places .now) (entry .noted) (entry .values .now) (loop .variables) (loop .waiting) _ _ _ _ (loop .inv .4), loop .inv .3, known .3, known .4, take-back .ensures .few, if1 .left)) (turn .ensures .0) (turn .ensures .1) (turn .ensures .2)
+    fewer-back (entry .table .now) (entry .places .now) (entry .noted) (entry .values .now) (loop .variables) (loop .waiting) _ _ _ _ (take-back .result) _ _ (look-fails (entry .table .now) (entry .places .now) (entry .noted) (entry .values .now) (loop .variables) (loop .waiting) _ (loop .depth) (loop .count) (loop .values) (loop .inv .4) _ _ (look .ensures) (enum-told2 .given .1)) (take-back .ensures) (omega (arith, if1 .left)) _ _ _ (omega (arith, depth-most (entry .table .now) (entry .places .now) (entry .noted) (entry .values .now) (loop .variables) (loop .waiting) _ _ _ _ (loop .inv .4), loop .inv .3, known .2 .each-waiting, take-back .ensures .few, if1 .left)) (turn .ensures .0) (turn .ensures .1) (turn .ensures .2)
 
 -- src/search.rt:40:5
 loop-again : tie.Need-loop-again Inv-loop μ-loop
@@ -205,7 +205,7 @@ loop-again c =
     let take-back = c .before .before .before .before .before .before .before .before .before .before .before .before .before .take-back in
     let if1 = c .before .before .before .before .before .before .before .before .before .before .if1 in
     let turn = c .before .before .before .before .before .before .turn in
-    (look .kept .1 .0 ∙ loop .inv .0, look .kept .1 .1 .1 .1 .0 ∙ loop .inv .1, loop .inv .2, turn .kept .1 .1 .0 ∙ loop .inv .3, turned-back (entry .table .now) (entry .places .now) (entry .noted) (entry .values .now) (loop .variables) (loop .waiting) _ _ _ _ (take-back .result) _ _ (look-fails (entry .table .now) (entry .places .now) (entry .noted) (entry .values .now) (loop .variables) (loop .waiting) _ (loop .depth) (loop .count) (loop .values) (loop .inv .4) _ _ (look .ensures) (enum-told2 .given .1)) (take-back .ensures) (omega (arith, if1 .left)) _ _ _ (omega (arith, depth-most (entry .table .now) (entry .places .now) (entry .noted) (entry .values .now) (loop .variables) (loop .waiting) _ _ _ _ (loop .inv .4), loop .inv .3, known .3, known .4, take-back .ensures .few, if1 .left)) (turn .ensures .0) (turn .ensures .1) (turn .ensures .2))
+    (look .kept .1 .0 ∙ loop .inv .0, look .kept .1 .1 .1 .1 .0 ∙ loop .inv .1, loop .inv .2, turn .kept .1 .1 .0 ∙ loop .inv .3, turned-back (entry .table .now) (entry .places .now) (entry .noted) (entry .values .now) (loop .variables) (loop .waiting) _ _ _ _ (take-back .result) _ _ (look-fails (entry .table .now) (entry .places .now) (entry .noted) (entry .values .now) (loop .variables) (loop .waiting) _ (loop .depth) (loop .count) (loop .values) (loop .inv .4) _ _ (look .ensures) (enum-told2 .given .1)) (take-back .ensures) (omega (arith, if1 .left)) _ _ _ (omega (arith, depth-most (entry .table .now) (entry .places .now) (entry .noted) (entry .values .now) (loop .variables) (loop .waiting) _ _ _ _ (loop .inv .4), loop .inv .3, known .2 .each-waiting, take-back .ensures .few, if1 .left)) (turn .ensures .0) (turn .ensures .1) (turn .ensures .2))
 
 -- src/search.rt:53:24
 enum-known-seen : tie.Need-enum-known-seen Inv-loop μ-loop
@@ -226,7 +226,7 @@ cast-variables c =
     let known = c .before .before .before .before .before .before .before .before .before .before .before .before .before .before .before .before .before .before .pre in
     let loop = c .before .before .before .before .before .before .before .before .before .before .before .loop in
     let look = c .before .before .before .before .before .before .before .look in
-    omega (arith, open-rows (entry .table .now) (entry .places .now) (entry .noted) (entry .values .now) (loop .variables) (loop .waiting) _ (loop .depth) (loop .count) (loop .values) (loop .inv .4) _ _ (look .ensures) (c .before .seen .given .0 .0) (c .before .seen .given .1) .inside, trail-length _ _ _ _ _ _ _ _ (loop .inv .4 .path), known .1)
+    omega (arith, open-rows (entry .table .now) (entry .places .now) (entry .noted) (entry .values .now) (loop .variables) (loop .waiting) _ (loop .depth) (loop .count) (loop .values) (loop .inv .4) _ _ (look .ensures) (c .before .seen .given .0 .0) (c .before .seen .given .1) .inside, trail-length _ _ _ _ _ _ _ _ (loop .inv .4 .path), known .2 .numbered)
 
 -- src/search.rt:57:17
 mul-variables : tie.Need-mul-variables Inv-loop μ-loop
@@ -235,7 +235,7 @@ mul-variables c =
     let known = c .before .before .before .before .before .before .before .before .before .before .before .before .before .before .before .before .before .before .pre in
     let loop = c .before .before .before .before .before .before .before .before .before .before .before .loop in
     let look = c .before .before .before .before .before .before .before .look in
-    omega (arith, trail-room (entry .table .now) (entry .places .now) (entry .noted) (entry .values .now) (loop .variables) (loop .waiting) _ (loop .depth) (loop .count) (loop .values) (loop .inv .4) _ _ (look .ensures) (c .before .seen .given .0 .0) (c .before .seen .given .1), known .1)
+    omega (arith, trail-room (entry .table .now) (entry .places .now) (entry .noted) (entry .values .now) (loop .variables) (loop .waiting) _ (loop .depth) (loop .count) (loop .values) (loop .inv .4) _ _ (look .ensures) (c .before .seen .given .0 .0) (c .before .seen .given .1), known .2 .numbered)
 
 -- src/search.rt:57:17
 slice-write-variables : tie.Need-slice-write-variables Inv-loop μ-loop
@@ -244,7 +244,7 @@ slice-write-variables c =
     let known = c .before .before .before .before .before .before .before .before .before .before .before .before .before .before .before .before .before .before .pre in
     let loop = c .before .before .before .before .before .before .before .before .before .before .before .loop in
     let look = c .before .before .before .before .before .before .before .look in
-    omega (arith, trail-room (entry .table .now) (entry .places .now) (entry .noted) (entry .values .now) (loop .variables) (loop .waiting) _ (loop .depth) (loop .count) (loop .values) (loop .inv .4) _ _ (look .ensures) (c .before .seen .given .0 .0) (c .before .seen .given .1), loop .inv .2, known .3)
+    omega (arith, trail-room (entry .table .now) (entry .places .now) (entry .noted) (entry .values .now) (loop .variables) (loop .waiting) _ (loop .depth) (loop .count) (loop .values) (loop .inv .4) _ _ (look .ensures) (c .before .seen .given .0 .0) (c .before .seen .given .1), loop .inv .2, known .2 .each)
 
 -- src/search.rt:58:34
 cast-waiting : tie.Need-cast-waiting Inv-loop μ-loop
@@ -253,7 +253,7 @@ cast-waiting c =
     let known = c .before .before .before .before .before .before .before .before .before .before .before .before .before .before .before .before .before .before .pre in
     let loop = c .before .before .before .before .before .before .before .before .before .before .before .loop in
     let look = c .before .before .before .before .before .before .before .look in
-    omega (arith, open-rows (entry .table .now) (entry .places .now) (entry .noted) (entry .values .now) (loop .variables) (loop .waiting) _ (loop .depth) (loop .count) (loop .values) (loop .inv .4) _ _ (look .ensures) (c .before .seen .given .0 .0) (c .before .seen .given .1) .few, loop .inv .4 .here .few, known .2)
+    omega (arith, open-rows (entry .table .now) (entry .places .now) (entry .noted) (entry .values .now) (loop .variables) (loop .waiting) _ (loop .depth) (loop .count) (loop .values) (loop .inv .4) _ _ (look .ensures) (c .before .seen .given .0 .0) (c .before .seen .given .1) .few, loop .inv .4 .here .few, known .1)
 
 -- src/search.rt:58:17
 mul-waiting : tie.Need-mul-waiting Inv-loop μ-loop
@@ -262,7 +262,7 @@ mul-waiting c =
     let known = c .before .before .before .before .before .before .before .before .before .before .before .before .before .before .before .before .before .before .pre in
     let loop = c .before .before .before .before .before .before .before .before .before .before .before .loop in
     let look = c .before .before .before .before .before .before .before .look in
-    omega (arith, trail-room (entry .table .now) (entry .places .now) (entry .noted) (entry .values .now) (loop .variables) (loop .waiting) _ (loop .depth) (loop .count) (loop .values) (loop .inv .4) _ _ (look .ensures) (c .before .seen .given .0 .0) (c .before .seen .given .1), known .1)
+    omega (arith, trail-room (entry .table .now) (entry .places .now) (entry .noted) (entry .values .now) (loop .variables) (loop .waiting) _ (loop .depth) (loop .count) (loop .values) (loop .inv .4) _ _ (look .ensures) (c .before .seen .given .0 .0) (c .before .seen .given .1), known .2 .numbered)
 
 -- src/search.rt:58:17
 slice-write-waiting : tie.Need-slice-write-waiting Inv-loop μ-loop
@@ -271,7 +271,7 @@ slice-write-waiting c =
     let known = c .before .before .before .before .before .before .before .before .before .before .before .before .before .before .before .before .before .before .pre in
     let loop = c .before .before .before .before .before .before .before .before .before .before .before .loop in
     let look = c .before .before .before .before .before .before .before .look in
-    omega (arith, trail-room (entry .table .now) (entry .places .now) (entry .noted) (entry .values .now) (loop .variables) (loop .waiting) _ (loop .depth) (loop .count) (loop .values) (loop .inv .4) _ _ (look .ensures) (c .before .seen .given .0 .0) (c .before .seen .given .1), loop .inv .3, known .3, known .4)
+    omega (arith, trail-room (entry .table .now) (entry .places .now) (entry .noted) (entry .values .now) (loop .variables) (loop .waiting) _ (loop .depth) (loop .count) (loop .values) (loop .inv .4) _ _ (look .ensures) (c .before .seen .given .0 .0) (c .before .seen .given .1), loop .inv .3, known .2 .each-waiting)
 
 -- src/search.rt:59:25
 add-depth : tie.Need-add-depth Inv-loop μ-loop
@@ -280,7 +280,7 @@ add-depth c =
     let known = c .before .before .before .before .before .before .before .before .before .before .before .before .before .before .before .before .before .before .pre in
     let loop = c .before .before .before .before .before .before .before .before .before .before .before .loop in
     let look = c .before .before .before .before .before .before .before .look in
-    omega (arith, trail-room (entry .table .now) (entry .places .now) (entry .noted) (entry .values .now) (loop .variables) (loop .waiting) _ (loop .depth) (loop .count) (loop .values) (loop .inv .4) _ _ (look .ensures) (c .before .seen .given .0 .0) (c .before .seen .given .1), known .1)
+    omega (arith, trail-room (entry .table .now) (entry .places .now) (entry .noted) (entry .values .now) (loop .variables) (loop .waiting) _ (loop .depth) (loop .count) (loop .values) (loop .inv .4) _ _ (look .ensures) (c .before .seen .given .0 .0) (c .before .seen .given .1), known .2 .numbered)
 
 -- src/search.rt:60:17
 blind-of-requires-2 : tie.Need-blind-of-requires-2 Inv-loop μ-loop
@@ -290,7 +290,7 @@ blind-of-requires-2 c κs =
     let loop = c .before .before .before .before .before .before .before .before .before .before .before .before .loop in
     let look = c .before .before .before .before .before .before .before .before .look in
     let seen = c .before .before .seen in
-    omega (arith, open-rows (entry .table .now) (entry .places .now) (entry .noted) (entry .values .now) (loop .variables) (loop .waiting) _ (loop .depth) (loop .count) (loop .values) (loop .inv .4) _ _ (look .ensures) (seen .given .0 .0) (seen .given .1) .inside, trail-length _ _ _ _ _ _ _ _ (loop .inv .4 .path), known .1)
+    omega (arith, open-rows (entry .table .now) (entry .places .now) (entry .noted) (entry .values .now) (loop .variables) (loop .waiting) _ (loop .depth) (loop .count) (loop .values) (loop .inv .4) _ _ (look .ensures) (seen .given .0 .0) (seen .given .1) .inside, trail-length _ _ _ _ _ _ _ _ (loop .inv .4 .path), known .2 .numbered)
 
 -- src/search.rt:40:5
 loop-less-2 : tie.Need-loop-less-2 Inv-loop μ-loop
@@ -300,7 +300,7 @@ loop-less-2 c =
     let loop = c .before .before .before .before .before .before .before .before .before .before .before .before .before .loop in
     let look = c .before .before .before .before .before .before .before .before .before .look in
     let seen = c .before .before .before .seen in
-    fewer-deeper (entry .table .now) (entry .places .now) (entry .noted) (entry .values .now) (loop .variables) (loop .waiting) _ (loop .depth) (loop .count) (loop .values) (loop .inv .4) _ _ (look .ensures) (seen .given .0 .0) (seen .given .1) (omega (arith, trail-room (entry .table .now) (entry .places .now) (entry .noted) (entry .values .now) (loop .variables) (loop .waiting) _ (loop .depth) (loop .count) (loop .values) (loop .inv .4) _ _ (look .ensures) (seen .given .0 .0) (seen .given .1), loop .inv .2, known .3)) (omega (arith, trail-room (entry .table .now) (entry .places .now) (entry .noted) (entry .values .now) (loop .variables) (loop .waiting) _ (loop .depth) (loop .count) (loop .values) (loop .inv .4) _ _ (look .ensures) (seen .given .0 .0) (seen .given .1), loop .inv .3, known .3, known .4)) _
+    fewer-deeper (entry .table .now) (entry .places .now) (entry .noted) (entry .values .now) (loop .variables) (loop .waiting) _ (loop .depth) (loop .count) (loop .values) (loop .inv .4) _ _ (look .ensures) (seen .given .0 .0) (seen .given .1) (omega (arith, trail-room (entry .table .now) (entry .places .now) (entry .noted) (entry .values .now) (loop .variables) (loop .waiting) _ (loop .depth) (loop .count) (loop .values) (loop .inv .4) _ _ (look .ensures) (seen .given .0 .0) (seen .given .1), loop .inv .2, known .2 .each)) (omega (arith, trail-room (entry .table .now) (entry .places .now) (entry .noted) (entry .values .now) (loop .variables) (loop .waiting) _ (loop .depth) (loop .count) (loop .values) (loop .inv .4) _ _ (look .ensures) (seen .given .0 .0) (seen .given .1), loop .inv .3, known .2 .each-waiting)) _
 
 -- src/search.rt:40:5
 loop-again-2 : tie.Need-loop-again-2 Inv-loop μ-loop
@@ -310,7 +310,7 @@ loop-again-2 c =
     let loop = c .before .before .before .before .before .before .before .before .before .before .before .before .before .loop in
     let look = c .before .before .before .before .before .before .before .before .before .look in
     let seen = c .before .before .before .seen in
-    (look .kept .1 .0 ∙ loop .inv .0, look .kept .1 .1 .1 .1 .0 ∙ loop .inv .1, simp length-set (loop .inv .2), simp length-set (loop .inv .3), one-deeper (entry .table .now) (entry .places .now) (entry .noted) (entry .values .now) (loop .variables) (loop .waiting) _ (loop .depth) (loop .count) (loop .values) (loop .inv .4) _ _ (look .ensures) (seen .given .0 .0) (seen .given .1) (omega (arith, trail-room (entry .table .now) (entry .places .now) (entry .noted) (entry .values .now) (loop .variables) (loop .waiting) _ (loop .depth) (loop .count) (loop .values) (loop .inv .4) _ _ (look .ensures) (seen .given .0 .0) (seen .given .1), loop .inv .2, known .3)) (omega (arith, trail-room (entry .table .now) (entry .places .now) (entry .noted) (entry .values .now) (loop .variables) (loop .waiting) _ (loop .depth) (loop .count) (loop .values) (loop .inv .4) _ _ (look .ensures) (seen .given .0 .0) (seen .given .1), loop .inv .3, known .3, known .4)))
+    (look .kept .1 .0 ∙ loop .inv .0, look .kept .1 .1 .1 .1 .0 ∙ loop .inv .1, simp length-set (loop .inv .2), simp length-set (loop .inv .3), one-deeper (entry .table .now) (entry .places .now) (entry .noted) (entry .values .now) (loop .variables) (loop .waiting) _ (loop .depth) (loop .count) (loop .values) (loop .inv .4) _ _ (look .ensures) (seen .given .0 .0) (seen .given .1) (omega (arith, trail-room (entry .table .now) (entry .places .now) (entry .noted) (entry .values .now) (loop .variables) (loop .waiting) _ (loop .depth) (loop .count) (loop .values) (loop .inv .4) _ _ (look .ensures) (seen .given .0 .0) (seen .given .1), loop .inv .2, known .2 .each)) (omega (arith, trail-room (entry .table .now) (entry .places .now) (entry .noted) (entry .values .now) (loop .variables) (loop .waiting) _ (loop .depth) (loop .count) (loop .values) (loop .inv .4) _ _ (look .ensures) (seen .given .0 .0) (seen .given .1), loop .inv .3, known .2 .each-waiting)))
 
 pub complete-spec : {M : Type 1} → statement M
 complete-spec =

@@ -2,7 +2,6 @@ use mathlib.Core.Path.{_≡_, refl}
 use Prim.Native.Nat.{_-_}
 use lib.ListN.{length, length-set}
 use native.Mathlib.Omega.{arith}
-use borrow.Author.Needs.{needs}
 use Rattle.question.proofs.Decisions.{TakingBack, back-start, back-turn, back-stop, back-end}
 use Rattle.question.proofs.trail.take_back.Statement.{statement}
 use Rattle.question.proofs.trail.take_back.Tie as tie
