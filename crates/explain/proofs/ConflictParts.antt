@@ -107,13 +107,14 @@ pub is-cut :
     (asked : ℕ) →
     asked ≡ cond asking 1 0 →
     2 ≤ count →
-    (F1 F2 F3 F4 : Selection) (f2 a2 f1 a1 : ℕ) →
+    (F1 F2 F3 F4 : Selection) (f2 a2 f1 a1 sum : ℕ) →
+    sum ≡ asked + (a2 + a1) →
     F1 ≡ filled from (count / 2) true X →
     ConflictWorked ok (from + count / 2) (count - count / 2) true F1 F2 f2 a2 →
     F3 ≡ filled from (count / 2) false F2 →
     ConflictWorked ok from (count / 2) (ltb 0 f2) F3 F4 f1 a1 →
-    ConflictWorked ok from count asking X F4 (f2 + f1) (asked + (a2 + a1))
-is-cut ok from count asking X told e h asked counted more F1 F2 F3 F4 f2 a2 f1 a1 e1 second e3 first S g =
+    ConflictWorked ok from count asking X F4 (f2 + f1) sum
+is-cut ok from count asking X told e h asked counted more F1 F2 F3 F4 f2 a2 f1 a1 sum added e1 second e3 first S g =
     let d2 : Part = halveConflict ok (middle (count - count / 2)) (from + count / 2) true S in
     let l2 = second S (second-ground from count (count / 2) X F1 S (omega arith) e1 g) in
     let l1 = first (d2 .set) (first-ground from (count / 2) F2 F3 (d2 .set) e3 (l2 .set)) in
@@ -121,7 +122,7 @@ is-cut ok from count asking X told e h asked counted more F1 F2 F3 F4 f2 a2 f1 a
     let p =
     conflict-is-cut ok half half-cuts count from S more asking (ground ok from count asking X told e h asked counted S g) d2 d1 refl
     (rw (l2 .found-is)) in
-    rw p
+    rw (p, added)
     (record {
       set = l1 .set;
       found-is = omega (arith, l2 .found-is, l1 .found-is);

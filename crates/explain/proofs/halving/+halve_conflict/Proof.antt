@@ -168,7 +168,7 @@ halve-conflict-returns-3 t c =
     let halve-conflict = c .before .before .before .before .before .before .before .before .before .before .before .before .before .before .before .before .before .halve-conflict in
     let fill2 = c .before .before .before .before .before .before .before .before .before .before .before .before .before .fill2 in
     let halve-conflict2 = c .before .before .before .before .before .before .halve-conflict2 in
-    is-cut (questionOf (entry .table .now) (entry .frame) (entry .order .now)) (entry .from) (entry .count) (entry .asking) (entry .flags .now) (ground-fails .result) (ground-fails .ensures) (if1 .left) (questions .result) (questions .ensures) (omega (arith, if2 .left, known .1 .1 .some)) _ _ _ _ _ _ _ _ (fill .ensures) (halve-conflict .ensures) (fill2 .ensures) (halve-conflict2 .ensures)
+    is-cut (questionOf (entry .table .now) (entry .frame) (entry .order .now)) (entry .from) (entry .count) (entry .asking) (entry .flags .now) (ground-fails .result) (ground-fails .ensures) (if1 .left) (questions .result) (questions .ensures) (omega (arith, if2 .left, known .1 .1 .some)) _ _ _ _ _ _ _ _ _ (omega arith) (fill .ensures) (halve-conflict .ensures) (fill2 .ensures) (halve-conflict2 .ensures)
 
 pub +halve-conflict-spec : {M : Type 1} → statement M
 +halve-conflict-spec = close μ-halve-conflict λ t. halve-conflict-lts.spec (calls t)
