@@ -7,7 +7,7 @@ use native.Mathlib.Omega.{arith}
 use native.Mathlib.Nat.{zero-add}
 use native.Mathlib.Numerals.{add-one}
 use lib.ListN.{length, drop, set, replicate, length-replicate}
-use lib.Seq.{sets, sets-eq, length-sets, drop-drop, drop-length, take-at, drop-at}
+use lib.Seq.{sets, sets-eq, drop-drop, drop-length, take-at, drop-at}
 use Rattle.preference.specs.Selection.{Selection, all, none}
 use Rattle.preference.proofs.Selections.{length-all, length-none}
 use Rattle.explain.specs.Flags.{filled}
@@ -32,9 +32,6 @@ module _ (value : Bool) where
   fill-is from count X h =
       let e = length-replicate count value in
       sets-eq (replicate count value) X from (rw e h) ∙ rw (e, append-assoc)
-
-  pub length-filled : (from count : ℕ) (X : List Bool) → from + count ≤ length X → length (filled from count value X) ≡ length X
-  length-filled from count X h = rw (← fill-is from count X h) (length-sets X from (replicate count value))
 
 -- what is behind two runs
 past : (A B C : List Bool) (a b : ℕ) → length A ≡ a → length B ≡ b → drop (a + b) (A ++ (B ++ C)) ≡ C

@@ -4,14 +4,18 @@
 use crate::disassembly::Disassembly;
 use crate::frame::{Call, Frame};
 use crate::unfollowed::Unfollowed;
+use hainscope::MOST_REQUESTS;
 use std::collections::BTreeMap;
 use std::fmt;
 
-/// How many frames of a function that calls itself can lie on the stack. Document 01 bounds the depth
-/// of halving by d, which is 6 for 64 requests, and the first frame comes to it.
+/// So many frames of halving can lie on the stack: document 01 bounds its depth by d, the least number
+/// with 2^d at least the number of requests, and the first frame comes to it.
+const FRAMES_OF_HALVING: usize = MOST_REQUESTS.next_power_of_two().ilog2() as usize + 1;
+
+/// The functions that may call themselves, and how many frames of each can lie on the stack.
 const FRAMES: [(&str, usize); 2] = [
-    ("explain::halving::halve_conflict", 7),
-    ("explain::halving::halve_relaxation", 7),
+    ("explain::halving::halve_conflict", FRAMES_OF_HALVING),
+    ("explain::halving::halve_relaxation", FRAMES_OF_HALVING),
 ];
 
 /// The functions of the C library that may be called, and what each may use: they call nothing, and
