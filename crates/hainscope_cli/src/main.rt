@@ -1,7 +1,9 @@
 // The program: a table on standard input, and on standard output the preferred conflict and the preferred
-// relaxation, a line each, or one line with the table's refusal (document 01, "The program prints").
+// relaxation, a line each, or one line with the table's refusal (document 01, "The program prints"). Where the input
+// cannot be read it prints nothing, and says so on standard error.
 use hainscope::calls::hainscope_conflict;
 use hainscope::calls::hainscope_relaxation;
+use libc::STDERR_FILENO;
 use libc::STDIN_FILENO;
 use libc::STDOUT_FILENO;
 use table::limits::MOST_BYTES;
@@ -69,7 +71,7 @@ fn has_ended() -> bool {
 }
 
 // A table of more bytes than any may have is refused as one byte too long; an input that cannot be read is no
-// table at all.
+// table, and gets no answer.
 fn main() {
     let mut input = [0u8; MOST_BYTES + 1];
     let got = io::read_full(STDIN_FILENO, &mut input);
@@ -80,6 +82,6 @@ fn main() {
     if has_ended() {
         explain(&input[..got]);
     } else {
-        explain(&input[..0]);
+        io::write_all(STDERR_FILENO, b"hainscope: the input cannot be read\n");
     }
 }
