@@ -21,10 +21,8 @@ fn main() {
             "is not of the Rattle sources as they stand: `bash rust/archive.sh` makes it again",
         );
     }
-    println!(
-        "cargo:rustc-env=HAINSCOPE_ARCHIVE_FOLDER={}",
-        folder.display()
-    );
+    println!("cargo:archive={}", archive.display()); // for the build scripts of crates that depend on this one
+    println!("cargo:rustc-env=HAINSCOPE_ARCHIVE={}", archive.display());
     println!("cargo:rustc-link-search=native={}", folder.display());
     println!("cargo:rustc-link-lib=static=hainscope");
 }

@@ -7,7 +7,7 @@ use std::process::Command;
 
 #[test]
 fn the_archive_is_of_the_sources_as_they_stand() {
-    let folder = Path::new(env!("HAINSCOPE_ARCHIVE_FOLDER"));
+    let folder = Path::new(env!("HAINSCOPE_ARCHIVE")).parent().unwrap();
     let made = Command::new("bash")
         .arg(concat!(env!("CARGO_MANIFEST_DIR"), "/../fingerprint.sh"))
         .arg(folder)

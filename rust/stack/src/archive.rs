@@ -8,11 +8,7 @@ use std::process::Command;
 
 /// The archive that the crate `hainscope` links.
 pub fn linked() -> PathBuf {
-    let folder = match env::var_os("HAINSCOPE_ARCHIVE_DIR") {
-        Some(folder) => PathBuf::from(folder),
-        None => Path::new(env!("CARGO_MANIFEST_DIR")).join("../../target/staticlib"),
-    };
-    folder.join("libhainscope.a")
+    PathBuf::from(env!("HAINSCOPE_ARCHIVE"))
 }
 
 /// The disassembly of an archive, by `objdump` or by the program that OBJDUMP names.
