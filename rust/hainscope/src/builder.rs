@@ -1,5 +1,6 @@
 //! A builder that writes a table's bytes: HEAD, rows, ORDER, and CHECK with its word set right.
-//! It judges nothing: numbers out of range are written as they are, and reading refuses them.
+//! It judges nothing: numbers out of range are written as they are, and reading refuses them. What
+//! does not fit in its bytes is never cut to something that fits, which could mean something else.
 
 /// Kinds of records.
 const HEAD: u16 = 1;
@@ -78,26 +79,17 @@ impl TableBuilder {
     }
 }
 
-/// The literal that is true where a variable is 1.
-pub fn wants(variable: u16) -> u16 {
-    2 * variable
-}
-
-/// The literal that is true where a variable is 0.
-pub fn refuses(variable: u16) -> u16 {
-    2 * variable + 1
-}
-
 /// Writes a record whose body is words.
 fn push_words(bytes: &mut Vec<u8>, kind: u16, words: &[u16]) {
     let body: Vec<u8> = words.iter().flat_map(|word| word.to_le_bytes()).collect();
     push_record(bytes, kind, &body);
 }
 
-/// Writes a record. A body too long for its L makes a table of more than 32,768 bytes, which
-/// reading refuses before it looks at any L.
+/// Writes a record. A body of more than 65,535 bytes has no L and gets the greatest; whatever L it
+/// has, its table has more than 32,768 bytes, which reading refuses before it looks at any L.
 fn push_record(bytes: &mut Vec<u8>, kind: u16, body: &[u8]) {
-    bytes.extend((body.len() as u16).to_le_bytes());
+    let length = u16::try_from(body.len()).unwrap_or(u16::MAX);
+    bytes.extend(length.to_le_bytes());
     bytes.extend(kind.to_le_bytes());
     bytes.extend(body);
 }

@@ -31,12 +31,14 @@
 
 mod builder;
 pub mod calls;
+mod literal;
 mod question;
 mod refusal;
 mod report;
 mod table;
 
-pub use builder::{refuses, wants, TableBuilder};
+pub use builder::TableBuilder;
+pub use literal::{refuses, wants};
 pub use question::Selection;
 pub use refusal::Refusal;
 pub use report::{Method, Report, Sought, Status, MOST_REPORT_BYTES};
