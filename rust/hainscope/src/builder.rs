@@ -2,6 +2,8 @@
 //! It judges nothing: numbers out of range are written as they are, and reading refuses them. What
 //! does not fit in its bytes is never cut to something that fits, which could mean something else.
 
+use crate::words::words;
+
 /// Kinds of records.
 const HEAD: u16 = 1;
 const CLAUSE: u16 = 2;
@@ -71,8 +73,7 @@ impl TableBuilder {
         let mut bytes = self.bytes.clone();
         push_words(&mut bytes, ORDER, &self.order);
         push_words(&mut bytes, CHECK, &[0]);
-        let add = |sum: u16, two: &[u8]| sum.wrapping_add(u16::from_le_bytes([two[0], two[1]]));
-        let sum = bytes.chunks_exact(2).fold(0, add);
+        let sum = words(&bytes).fold(0, u16::wrapping_add);
         let word = bytes.len() - 2;
         bytes[word..].copy_from_slice(&sum.wrapping_neg().to_le_bytes());
         bytes

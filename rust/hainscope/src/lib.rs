@@ -27,7 +27,6 @@
 //! assert_eq!(table.report(Sought::Relaxation)?.requests, [2]);
 //! # Ok::<(), hainscope::Refusal>(())
 //! ```
-#![deny(warnings, missing_docs, unsafe_op_in_unsafe_fn)]
 
 mod builder;
 pub mod calls;
@@ -36,6 +35,7 @@ mod question;
 mod refusal;
 mod report;
 mod table;
+mod words;
 
 pub use builder::TableBuilder;
 pub use literal::{refuses, wants};

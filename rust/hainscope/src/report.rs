@@ -4,6 +4,7 @@
 use crate::calls;
 use crate::refusal::Refusal;
 use crate::table::{Table, MOST_REQUESTS};
+use crate::words::words;
 
 /// Room for the report on any table: 12 + 2N bytes with the greatest N.
 pub const MOST_REPORT_BYTES: usize = 12 + 2 * MOST_REQUESTS as usize;
@@ -64,12 +65,12 @@ impl Report {
     /// assert_eq!(Report::of_record(&record[..13]), None);
     /// ```
     pub fn of_record(record: &[u8]) -> Option<Report> {
-        let (words, []) = record.as_chunks::<2>() else {
+        let words: Vec<u16> = words(record).collect();
+        let &[length, kind, status, low, high, k, ref requests @ ..] = words.as_slice() else {
             return None;
         };
-        let words: Vec<u16> = words.iter().map(|two| u16::from_le_bytes(*two)).collect();
-        let (&[length, kind, status, low, high, k], requests) = words.split_first_chunk()?;
-        if usize::from(length) + 4 != record.len() || usize::from(k) != requests.len() {
+        let (length, k) = (usize::from(length), usize::from(k));
+        if length != 8 + 2 * k || record.len() != 4 + length {
             return None;
         }
         Some(Report {
