@@ -2,14 +2,8 @@
 //! It judges nothing: numbers out of range are written as they are, and reading refuses them. What
 //! does not fit in its bytes is never cut to something that fits, which could mean something else.
 
+use crate::kind::Kind;
 use crate::words::words;
-
-/// Kinds of records.
-const HEAD: u16 = 1;
-const CLAUSE: u16 = 2;
-const LINEAR: u16 = 3;
-const ORDER: u16 = 4;
-const CHECK: u16 = 5;
 
 /// A table in the making.
 ///
@@ -36,7 +30,7 @@ impl TableBuilder {
     /// in the order 1 to N.
     pub fn new(variables: u16, requests: u16) -> TableBuilder {
         let mut bytes = Vec::new();
-        push_words(&mut bytes, HEAD, &[variables, requests]);
+        push_words(&mut bytes, Kind::Head, &[variables, requests]);
         TableBuilder {
             bytes,
             order: (1..=requests).collect(),
@@ -45,7 +39,7 @@ impl TableBuilder {
 
     /// A clause more: met where at least one literal is true. Role 0 is the host, r is request r.
     pub fn clause(mut self, role: u16, literals: &[u16]) -> TableBuilder {
-        push_words(&mut self.bytes, CLAUSE, &[&[role], literals].concat());
+        push_words(&mut self.bytes, Kind::Clause, &[&[role], literals].concat());
         self
     }
 
@@ -58,7 +52,7 @@ impl TableBuilder {
             body.extend(variable.to_le_bytes());
             body.extend(weight.to_le_bytes());
         }
-        push_record(&mut self.bytes, LINEAR, &body);
+        push_record(&mut self.bytes, Kind::Linear, &body);
         self
     }
 
@@ -71,8 +65,8 @@ impl TableBuilder {
     /// The table's bytes, ORDER and CHECK set at their end.
     pub fn table(&self) -> Vec<u8> {
         let mut bytes = self.bytes.clone();
-        push_words(&mut bytes, ORDER, &self.order);
-        push_words(&mut bytes, CHECK, &[0]);
+        push_words(&mut bytes, Kind::Order, &self.order);
+        push_words(&mut bytes, Kind::Check, &[0]);
         let sum = words(&bytes).fold(0, u16::wrapping_add);
         let word = bytes.len() - 2;
         bytes[word..].copy_from_slice(&sum.wrapping_neg().to_le_bytes());
@@ -81,16 +75,16 @@ impl TableBuilder {
 }
 
 /// Writes a record whose body is words.
-fn push_words(bytes: &mut Vec<u8>, kind: u16, words: &[u16]) {
+fn push_words(bytes: &mut Vec<u8>, kind: Kind, words: &[u16]) {
     let body: Vec<u8> = words.iter().flat_map(|word| word.to_le_bytes()).collect();
     push_record(bytes, kind, &body);
 }
 
 /// Writes a record. A body of more than 65,535 bytes has no L and gets the greatest; whatever L it
 /// has, its table has more than 32,768 bytes, which reading refuses before it looks at any L.
-fn push_record(bytes: &mut Vec<u8>, kind: u16, body: &[u8]) {
+fn push_record(bytes: &mut Vec<u8>, kind: Kind, body: &[u8]) {
     let length = u16::try_from(body.len()).unwrap_or(u16::MAX);
     bytes.extend(length.to_le_bytes());
-    bytes.extend(kind.to_le_bytes());
+    bytes.extend(kind.number().to_le_bytes());
     bytes.extend(body);
 }

@@ -2,6 +2,7 @@
 //! as a record in a lent buffer or decoded.
 
 use crate::calls;
+use crate::records::HEADING;
 use crate::refusal::Refusal;
 use crate::table::{Table, MOST_REQUESTS};
 use crate::words::words;
@@ -70,7 +71,7 @@ impl Report {
             return None;
         };
         let (length, k) = (usize::from(length), usize::from(k));
-        if length != 8 + 2 * k || record.len() != 4 + length {
+        if length != 8 + 2 * k || record.len() != HEADING + length {
             return None;
         }
         Some(Report {

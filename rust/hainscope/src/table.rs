@@ -31,7 +31,7 @@ impl<'a> Table<'a> {
         Ok(Table { bytes })
     }
 
-    /// The table's bytes.
+    /// The table's own bytes, as the caller lent them.
     pub fn bytes(&self) -> &'a [u8] {
         self.bytes
     }
@@ -54,5 +54,23 @@ impl<'a> Table<'a> {
         let refusal = calls::body(self.bytes, number, &mut length, &mut place);
         Refusal::unless_accepted(refusal, place)?;
         Ok(&self.bytes[place..place + length])
+    }
+}
+
+/// Reads a table, as [`Table::read`] does.
+///
+/// ```
+/// use hainscope::{Refusal, Table, TableBuilder};
+///
+/// let bytes = TableBuilder::new(2, 1).table();
+/// let table: Table = bytes.as_slice().try_into()?;
+/// assert_eq!(table.variables(), 2);
+/// # Ok::<(), Refusal>(())
+/// ```
+impl<'a> TryFrom<&'a [u8]> for Table<'a> {
+    type Error = Refusal;
+
+    fn try_from(bytes: &'a [u8]) -> Result<Table<'a>, Refusal> {
+        Table::read(bytes)
     }
 }
