@@ -36,14 +36,15 @@ mod question;
 mod records;
 mod refusal;
 mod report;
+mod selection;
 mod table;
 mod words;
 
 pub use builder::TableBuilder;
 pub use kind::Kind;
 pub use literal::{refuses, wants};
-pub use question::Selection;
 pub use records::{Record, Records};
 pub use refusal::Refusal;
 pub use report::{Method, Report, Sought, Status, MOST_REPORT_BYTES};
+pub use selection::Selection;
 pub use table::{Table, MOST_REQUESTS};
