@@ -1,5 +1,7 @@
 //! Reports: the preferred conflict and the preferred relaxation of an accepted table,
-//! as a record in a lent buffer or decoded.
+//! as a record in a lent buffer, decoded, or as one line of words.
+
+mod line;
 
 use crate::calls;
 use crate::records::HEADING;
@@ -39,7 +41,7 @@ pub enum Status {
     HostCannotStand,
 }
 
-/// A report, decoded.
+/// A report, decoded. Shown it is one line of words.
 #[derive(Clone, Debug, PartialEq, Eq, Hash)]
 pub struct Report {
     /// Conflict or relaxation.
@@ -93,8 +95,14 @@ impl Report {
 }
 
 impl Table<'_> {
-    /// Writes a report into a lent buffer from a start on, and returns the place after it. Fewer than
-    /// 12 + 2N bytes of room are refused with 12, whatever the answer is.
+    /// Writes a report into a lent buffer from a start on, and returns the place after it. No other
+    /// byte is changed.
+    ///
+    /// # Errors
+    ///
+    /// 12 where the start is past the buffer's end, or where fewer than 12 + 2N bytes are left from
+    /// it, N being the table's number of requests: whatever the answer is, and the buffer stays as
+    /// it was. [`MOST_REPORT_BYTES`] are room enough for any table.
     ///
     /// ```
     /// use hainscope::{Method, Sought, Table, TableBuilder};
@@ -128,7 +136,35 @@ impl Table<'_> {
         Ok(place)
     }
 
-    /// The report by the halving method, decoded.
+    /// The report by a method, decoded.
+    ///
+    /// # Errors
+    ///
+    /// None of today's list: the table is accepted, and there is room for any report.
+    ///
+    /// ```
+    /// use hainscope::{Method, Sought, Table, TableBuilder};
+    ///
+    /// let bytes = TableBuilder::new(0, 3).clause(3, &[]).table();
+    /// let table = Table::read(&bytes)?;
+    /// let halving = table.report_by(Sought::Relaxation, Method::Halving)?;
+    /// let one_by_one = table.report_by(Sought::Relaxation, Method::OneByOne)?;
+    /// assert_eq!(halving.requests, [1, 2]);
+    /// assert_eq!(one_by_one.requests, halving.requests);
+    /// assert_eq!((halving.count, one_by_one.count), (4, 5));
+    /// # Ok::<(), hainscope::Refusal>(())
+    /// ```
+    pub fn report_by(&self, sought: Sought, method: Method) -> Result<Report, Refusal> {
+        let mut buffer = [0; MOST_REPORT_BYTES];
+        let end = self.write_report(sought, method, &mut buffer, 0)?;
+        Ok(Report::of_record(&buffer[..end]).expect("an accepted call writes one report"))
+    }
+
+    /// The report by the halving method, decoded: [`Table::report_by`] with [`Method::Halving`].
+    ///
+    /// # Errors
+    ///
+    /// As of [`Table::report_by`].
     ///
     /// ```
     /// use hainscope::{refuses, wants, Sought, Status, Table, TableBuilder};
@@ -141,13 +177,15 @@ impl Table<'_> {
     /// let table = Table::read(&bytes)?;
     /// let conflict = table.report(Sought::Conflict)?;
     /// assert_eq!(conflict.status, Status::Conflict);
-    /// assert_eq!((conflict.count, conflict.requests), (4, vec![2, 1]));
+    /// assert_eq!((conflict.count, &conflict.requests[..]), (4, &[2, 1][..]));
+    /// assert_eq!(
+    ///     conflict.to_string(),
+    ///     "requests 2 and 1 cannot stand together (preferred conflict, 4 questions)"
+    /// );
     /// assert_eq!(table.report(Sought::Relaxation)?.requests, [2]);
     /// # Ok::<(), hainscope::Refusal>(())
     /// ```
     pub fn report(&self, sought: Sought) -> Result<Report, Refusal> {
-        let mut buffer = [0; MOST_REPORT_BYTES];
-        let end = self.write_report(sought, Method::Halving, &mut buffer, 0)?;
-        Ok(Report::of_record(&buffer[..end]).expect("an accepted call writes one report"))
+        self.report_by(sought, Method::Halving)
     }
 }
