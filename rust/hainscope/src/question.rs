@@ -10,11 +10,6 @@ impl Table<'_> {
     /// Whether a selection can stand: whether some setting meets all host rows and all rows of the
     /// selected requests.
     ///
-    /// # Errors
-    ///
-    /// 11 where the selection names a request above N, the table's number of requests. A selection
-    /// of this table's requests, such as a part of [`Selection::all`], is never refused.
-    ///
     /// ```
     /// use hainscope::{refuses, wants, Selection, Table, TableBuilder};
     ///
@@ -29,6 +24,11 @@ impl Table<'_> {
     /// assert_eq!(above.unwrap_err().number, 11);
     /// # Ok::<(), hainscope::Refusal>(())
     /// ```
+    ///
+    /// # Errors
+    ///
+    /// 11 where the selection names a request above N, the table's number of requests. A selection
+    /// of this table's requests, such as a part of [`Selection::all`], is never refused.
     pub fn can_stand(&self, selection: Selection) -> Result<bool, Refusal> {
         let (mut stands, mut place) = (0, 0);
         let number = calls::can_stand(self.bytes(), selection.bits(), &mut stands, &mut place);

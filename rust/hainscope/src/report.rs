@@ -98,12 +98,6 @@ impl Table<'_> {
     /// Writes a report into a lent buffer from a start on, and returns the place after it. No other
     /// byte is changed.
     ///
-    /// # Errors
-    ///
-    /// 12 where the start is past the buffer's end, or where fewer than 12 + 2N bytes are left from
-    /// it, N being the table's number of requests: whatever the answer is, and the buffer stays as
-    /// it was. [`MOST_REPORT_BYTES`] are room enough for any table.
-    ///
     /// ```
     /// use hainscope::{Method, Sought, Table, TableBuilder};
     ///
@@ -117,6 +111,12 @@ impl Table<'_> {
     /// assert_eq!(refusal.unwrap_err().number, 12);
     /// # Ok::<(), hainscope::Refusal>(())
     /// ```
+    ///
+    /// # Errors
+    ///
+    /// 12 where the start is past the buffer's end, or where fewer than 12 + 2N bytes are left from
+    /// it, N being the table's number of requests: whatever the answer is, and the buffer stays as
+    /// it was. [`MOST_REPORT_BYTES`] are room enough for any table.
     pub fn write_report(
         &self,
         sought: Sought,
@@ -138,10 +138,6 @@ impl Table<'_> {
 
     /// The report by a method, decoded.
     ///
-    /// # Errors
-    ///
-    /// None of today's list: the table is accepted, and there is room for any report.
-    ///
     /// ```
     /// use hainscope::{Method, Sought, Table, TableBuilder};
     ///
@@ -154,6 +150,10 @@ impl Table<'_> {
     /// assert_eq!((halving.count, one_by_one.count), (4, 5));
     /// # Ok::<(), hainscope::Refusal>(())
     /// ```
+    ///
+    /// # Errors
+    ///
+    /// None of today's list: the table is accepted, and there is room for any report.
     pub fn report_by(&self, sought: Sought, method: Method) -> Result<Report, Refusal> {
         let mut buffer = [0; MOST_REPORT_BYTES];
         let end = self.write_report(sought, method, &mut buffer, 0)?;
@@ -161,10 +161,6 @@ impl Table<'_> {
     }
 
     /// The report by the halving method, decoded: [`Table::report_by`] with [`Method::Halving`].
-    ///
-    /// # Errors
-    ///
-    /// As of [`Table::report_by`].
     ///
     /// ```
     /// use hainscope::{refuses, wants, Sought, Status, Table, TableBuilder};
@@ -185,6 +181,10 @@ impl Table<'_> {
     /// assert_eq!(table.report(Sought::Relaxation)?.requests, [2]);
     /// # Ok::<(), hainscope::Refusal>(())
     /// ```
+    ///
+    /// # Errors
+    ///
+    /// As of [`Table::report_by`].
     pub fn report(&self, sought: Sought) -> Result<Report, Refusal> {
         self.report_by(sought, Method::Halving)
     }

@@ -90,16 +90,16 @@ impl Selection {
 
 /// The selection of the request numbers of an iterator.
 ///
-/// # Panics
-///
-/// Where a request is 0 or above 64: no selection has such. [`Selection::of`] tells it instead.
-///
 /// ```
 /// use hainscope::Selection;
 ///
 /// let even: Selection = (1..=6).filter(|request| request % 2 == 0).collect();
 /// assert_eq!(even.to_string(), "2 4 6");
 /// ```
+///
+/// # Panics
+///
+/// Where a request is 0 or above 64: no selection has such. [`Selection::of`] tells it instead.
 impl FromIterator<u16> for Selection {
     fn from_iter<I: IntoIterator<Item = u16>>(requests: I) -> Selection {
         let with = |selection: Selection, request| match selection.with(request) {
