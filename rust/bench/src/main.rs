@@ -1,7 +1,6 @@
 //! The times of the proved library beside plain Rust on the same made events and hostile tables, in
 //! one run: `cargo run --release --offline -p bench`. A ratio above 1 says that the library took
 //! longer.
-#![deny(warnings, missing_docs)]
 #![forbid(unsafe_code)]
 
 mod measure;

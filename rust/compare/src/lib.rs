@@ -1,6 +1,5 @@
 //! The proved library, through its C functions, compared with the second program on made tables.
 //! The comparisons are in `tests/`, one file a subject; here is what they share.
-#![deny(warnings, missing_docs)]
 #![forbid(unsafe_code)]
 
 mod mismatch;

@@ -2,7 +2,7 @@
 //! with the same standing selections, number of requests and order have the same reports.
 
 use compare::{hex, same, Asked, Tally, REPORT_CALLS};
-use hainscope::{Method, Report, Sought, Status, Table};
+use hainscope::{Method, Sought, Status, Table};
 use made::events::{any, budget, SMALL};
 use made::plan::Plan;
 use made::random::Random;
@@ -21,14 +21,6 @@ fn event(seed: u64) -> Plan {
     }
 }
 
-/// A decoded report by the library.
-fn report(table: &Table, sought: Sought, method: Method) -> Report {
-    let mut buffer = [0; hainscope::MOST_REPORT_BYTES];
-    let end = table.write_report(sought, method, &mut buffer, 0);
-    let end = end.expect("room for any report");
-    Report::of_record(&buffer[..end]).expect("a report")
-}
-
 /// The minimal conflicts of a table.
 fn minimal(plan: &Plan, table: &[u8]) -> Vec<u64> {
     let event = Event::of(table).expect("a plan's table is valid");
@@ -44,8 +36,8 @@ fn both_methods_find_the_same_set_within_their_counts() {
         let table = Table::read(&bytes).expect("a plan's table is valid");
         let requests = Event::of(&bytes).expect("the same table").order.len();
         for sought in [Sought::Conflict, Sought::Relaxation] {
-            let halving = report(&table, sought, Method::Halving);
-            let one_by_one = report(&table, sought, Method::OneByOne);
+            let report = |method| table.report_by(sought, method).expect("a report");
+            let (halving, one_by_one) = (report(Method::Halving), report(Method::OneByOne));
             assert_eq!(halving.requests, one_by_one.requests, "seed {seed}");
             assert_eq!(halving.status, one_by_one.status, "seed {seed}");
             tally.add(format!("{:?}", halving.status));

@@ -2,9 +2,9 @@
 //! on both sides of every limit, on every cut and every changed byte.
 
 use compare::{same, Asked, Tally};
-use hainscope::calls;
+use hainscope::{calls, Reason, Table};
 use made::draft::mended;
-use made::edges::edges;
+use made::edges::{edges, Edge};
 use made::events::{any, SMALL};
 use made::random::Random;
 use made::sheet::h;
@@ -58,6 +58,20 @@ fn both_sides_of_every_limit() {
     }
     tally.print("read: both sides of every limit");
     tally.numbers_at_least(1, 0..=10);
+}
+
+#[test]
+fn every_refusal_of_a_table_says_so_in_words() {
+    let mut tally = Tally::new();
+    for edge in edges().iter().filter(|edge| edge.number != 0) {
+        let refusal = Table::read(&edge.table).expect_err("a table past a limit");
+        assert_ne!(refusal.reason(), Reason::Unlisted, "{}", edge.name);
+        let Edge { number, place, .. } = edge;
+        let start = format!("table refused (number {number}) at byte {place}: ");
+        assert!(refusal.to_string().starts_with(&start), "{}", edge.name);
+        tally.add_number(refusal.number);
+    }
+    tally.numbers_at_least(1, 1..=10);
 }
 
 #[test]

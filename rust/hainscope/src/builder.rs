@@ -1,12 +1,9 @@
 //! A builder that writes a table's bytes: HEAD, rows, ORDER, and CHECK with its word set right.
-//! It judges nothing: numbers out of range are written as they are, and reading refuses them.
+//! It judges nothing: numbers out of range are written as they are, and reading refuses them. What
+//! does not fit in its bytes is never cut to something that fits, which could mean something else.
 
-/// Kinds of records.
-const HEAD: u16 = 1;
-const CLAUSE: u16 = 2;
-const LINEAR: u16 = 3;
-const ORDER: u16 = 4;
-const CHECK: u16 = 5;
+use crate::kind::Kind;
+use crate::words::words;
 
 /// A table in the making.
 ///
@@ -33,7 +30,7 @@ impl TableBuilder {
     /// in the order 1 to N.
     pub fn new(variables: u16, requests: u16) -> TableBuilder {
         let mut bytes = Vec::new();
-        push_words(&mut bytes, HEAD, &[variables, requests]);
+        push_words(&mut bytes, Kind::Head, &[variables, requests]);
         TableBuilder {
             bytes,
             order: (1..=requests).collect(),
@@ -42,7 +39,7 @@ impl TableBuilder {
 
     /// A clause more: met where at least one literal is true. Role 0 is the host, r is request r.
     pub fn clause(mut self, role: u16, literals: &[u16]) -> TableBuilder {
-        push_words(&mut self.bytes, CLAUSE, &[&[role], literals].concat());
+        push_words(&mut self.bytes, Kind::Clause, &[&[role], literals].concat());
         self
     }
 
@@ -55,7 +52,7 @@ impl TableBuilder {
             body.extend(variable.to_le_bytes());
             body.extend(weight.to_le_bytes());
         }
-        push_record(&mut self.bytes, LINEAR, &body);
+        push_record(&mut self.bytes, Kind::Linear, &body);
         self
     }
 
@@ -68,36 +65,26 @@ impl TableBuilder {
     /// The table's bytes, ORDER and CHECK set at their end.
     pub fn table(&self) -> Vec<u8> {
         let mut bytes = self.bytes.clone();
-        push_words(&mut bytes, ORDER, &self.order);
-        push_words(&mut bytes, CHECK, &[0]);
-        let add = |sum: u16, two: &[u8]| sum.wrapping_add(u16::from_le_bytes([two[0], two[1]]));
-        let sum = bytes.chunks_exact(2).fold(0, add);
+        push_words(&mut bytes, Kind::Order, &self.order);
+        push_words(&mut bytes, Kind::Check, &[0]);
+        let sum = words(&bytes).fold(0, u16::wrapping_add);
         let word = bytes.len() - 2;
         bytes[word..].copy_from_slice(&sum.wrapping_neg().to_le_bytes());
         bytes
     }
 }
 
-/// The literal that is true where a variable is 1.
-pub fn wants(variable: u16) -> u16 {
-    2 * variable
-}
-
-/// The literal that is true where a variable is 0.
-pub fn refuses(variable: u16) -> u16 {
-    2 * variable + 1
-}
-
 /// Writes a record whose body is words.
-fn push_words(bytes: &mut Vec<u8>, kind: u16, words: &[u16]) {
+fn push_words(bytes: &mut Vec<u8>, kind: Kind, words: &[u16]) {
     let body: Vec<u8> = words.iter().flat_map(|word| word.to_le_bytes()).collect();
     push_record(bytes, kind, &body);
 }
 
-/// Writes a record. A body too long for its L makes a table of more than 32,768 bytes, which
-/// reading refuses before it looks at any L.
-fn push_record(bytes: &mut Vec<u8>, kind: u16, body: &[u8]) {
-    bytes.extend((body.len() as u16).to_le_bytes());
-    bytes.extend(kind.to_le_bytes());
+/// Writes a record. A body of more than 65,535 bytes has no L and gets the greatest; whatever L it
+/// has, its table has more than 32,768 bytes, which reading refuses before it looks at any L.
+fn push_record(bytes: &mut Vec<u8>, kind: Kind, body: &[u8]) {
+    let length = u16::try_from(body.len()).unwrap_or(u16::MAX);
+    bytes.extend(length.to_le_bytes());
+    bytes.extend(kind.number().to_le_bytes());
     bytes.extend(body);
 }

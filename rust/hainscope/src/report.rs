@@ -1,9 +1,13 @@
 //! Reports: the preferred conflict and the preferred relaxation of an accepted table,
-//! as a record in a lent buffer or decoded.
+//! as a record in a lent buffer, decoded, or as one line of words.
+
+mod line;
 
 use crate::calls;
+use crate::records::HEADING;
 use crate::refusal::Refusal;
 use crate::table::{Table, MOST_REQUESTS};
+use crate::words::words;
 
 /// Room for the report on any table: 12 + 2N bytes with the greatest N.
 pub const MOST_REPORT_BYTES: usize = 12 + 2 * MOST_REQUESTS as usize;
@@ -37,7 +41,7 @@ pub enum Status {
     HostCannotStand,
 }
 
-/// A report, decoded.
+/// A report, decoded. Shown it is one line of words.
 #[derive(Clone, Debug, PartialEq, Eq, Hash)]
 pub struct Report {
     /// Conflict or relaxation.
@@ -64,12 +68,12 @@ impl Report {
     /// assert_eq!(Report::of_record(&record[..13]), None);
     /// ```
     pub fn of_record(record: &[u8]) -> Option<Report> {
-        let (words, []) = record.as_chunks::<2>() else {
+        let words: Vec<u16> = words(record).collect();
+        let &[length, kind, status, low, high, k, ref requests @ ..] = words.as_slice() else {
             return None;
         };
-        let words: Vec<u16> = words.iter().map(|two| u16::from_le_bytes(*two)).collect();
-        let (&[length, kind, status, low, high, k], requests) = words.split_first_chunk()?;
-        if usize::from(length) + 4 != record.len() || usize::from(k) != requests.len() {
+        let (length, k) = (usize::from(length), usize::from(k));
+        if length != 8 + 2 * k || record.len() != HEADING + length {
             return None;
         }
         Some(Report {
@@ -91,8 +95,8 @@ impl Report {
 }
 
 impl Table<'_> {
-    /// Writes a report into a lent buffer from a start on, and returns the place after it. Fewer than
-    /// 12 + 2N bytes of room are refused with 12, whatever the answer is.
+    /// Writes a report into a lent buffer from a start on, and returns the place after it. No other
+    /// byte is changed.
     ///
     /// ```
     /// use hainscope::{Method, Sought, Table, TableBuilder};
@@ -107,6 +111,12 @@ impl Table<'_> {
     /// assert_eq!(refusal.unwrap_err().number, 12);
     /// # Ok::<(), hainscope::Refusal>(())
     /// ```
+    ///
+    /// # Errors
+    ///
+    /// 12 where the start is past the buffer's end, or where fewer than 12 + 2N bytes are left from
+    /// it, N being the table's number of requests: whatever the answer is, and the buffer stays as
+    /// it was. [`MOST_REPORT_BYTES`] are room enough for any table.
     pub fn write_report(
         &self,
         sought: Sought,
@@ -126,7 +136,31 @@ impl Table<'_> {
         Ok(place)
     }
 
-    /// The report by the halving method, decoded.
+    /// The report by a method, decoded.
+    ///
+    /// ```
+    /// use hainscope::{Method, Sought, Table, TableBuilder};
+    ///
+    /// let bytes = TableBuilder::new(0, 3).clause(3, &[]).table();
+    /// let table = Table::read(&bytes)?;
+    /// let halving = table.report_by(Sought::Relaxation, Method::Halving)?;
+    /// let one_by_one = table.report_by(Sought::Relaxation, Method::OneByOne)?;
+    /// assert_eq!(halving.requests, [1, 2]);
+    /// assert_eq!(one_by_one.requests, halving.requests);
+    /// assert_eq!((halving.count, one_by_one.count), (4, 5));
+    /// # Ok::<(), hainscope::Refusal>(())
+    /// ```
+    ///
+    /// # Errors
+    ///
+    /// None of today's list: the table is accepted, and there is room for any report.
+    pub fn report_by(&self, sought: Sought, method: Method) -> Result<Report, Refusal> {
+        let mut buffer = [0; MOST_REPORT_BYTES];
+        let end = self.write_report(sought, method, &mut buffer, 0)?;
+        Ok(Report::of_record(&buffer[..end]).expect("an accepted call writes one report"))
+    }
+
+    /// The report by the halving method, decoded: [`Table::report_by`] with [`Method::Halving`].
     ///
     /// ```
     /// use hainscope::{refuses, wants, Sought, Status, Table, TableBuilder};
@@ -139,13 +173,19 @@ impl Table<'_> {
     /// let table = Table::read(&bytes)?;
     /// let conflict = table.report(Sought::Conflict)?;
     /// assert_eq!(conflict.status, Status::Conflict);
-    /// assert_eq!((conflict.count, conflict.requests), (4, vec![2, 1]));
+    /// assert_eq!((conflict.count, &conflict.requests[..]), (4, &[2, 1][..]));
+    /// assert_eq!(
+    ///     conflict.to_string(),
+    ///     "requests 2 and 1 cannot stand together (preferred conflict, 4 questions)"
+    /// );
     /// assert_eq!(table.report(Sought::Relaxation)?.requests, [2]);
     /// # Ok::<(), hainscope::Refusal>(())
     /// ```
+    ///
+    /// # Errors
+    ///
+    /// As of [`Table::report_by`].
     pub fn report(&self, sought: Sought) -> Result<Report, Refusal> {
-        let mut buffer = [0; MOST_REPORT_BYTES];
-        let end = self.write_report(sought, Method::Halving, &mut buffer, 0)?;
-        Ok(Report::of_record(&buffer[..end]).expect("an accepted call writes one report"))
+        self.report_by(sought, Method::Halving)
     }
 }

@@ -1,4 +1,4 @@
-//! An accepted table, lent by the caller, and what can be asked of its records.
+//! An accepted table, lent by the caller.
 //! A refused table never becomes a [`Table`].
 
 use crate::calls;
@@ -7,7 +7,8 @@ use crate::refusal::Refusal;
 /// The most requests that a table may have.
 pub const MOST_REQUESTS: u16 = 64;
 
-/// A table that the proved library has accepted.
+/// A table that the proved library has accepted. It borrows the caller's bytes, and may be copied and
+/// shared among threads.
 #[derive(Clone, Copy, Debug, PartialEq, Eq)]
 pub struct Table<'a> {
     bytes: &'a [u8],
@@ -24,6 +25,10 @@ impl<'a> Table<'a> {
     /// bytes[0] = 5;
     /// assert_eq!(Table::read(&bytes).unwrap_err().number, 5);
     /// ```
+    ///
+    /// # Errors
+    ///
+    /// 1 to 10, which are about the table: [`Reason`](crate::Reason) names them.
     pub fn read(bytes: &'a [u8]) -> Result<Table<'a>, Refusal> {
         let mut place = 0;
         let number = calls::read(bytes, &mut place);
@@ -31,13 +36,13 @@ impl<'a> Table<'a> {
         Ok(Table { bytes })
     }
 
-    /// The table's bytes.
+    /// The table's own bytes, as the caller lent them.
     pub fn bytes(&self) -> &'a [u8] {
         self.bytes
     }
 
     /// The body of the record of a number, the first being 0. It is that stretch of the caller's
-    /// own table; it may be empty. Past the last record the refusal is 13.
+    /// own table; it may be empty.
     ///
     /// ```
     /// use hainscope::{Table, TableBuilder};
@@ -49,10 +54,32 @@ impl<'a> Table<'a> {
     /// assert_eq!(table.body(3).unwrap_err().number, 13);
     /// # Ok::<(), hainscope::Refusal>(())
     /// ```
+    ///
+    /// # Errors
+    ///
+    /// 13, at the table's length, where the table has no record of that number.
     pub fn body(&self, number: usize) -> Result<&'a [u8], Refusal> {
         let (mut length, mut place) = (0, 0);
         let refusal = calls::body(self.bytes, number, &mut length, &mut place);
         Refusal::unless_accepted(refusal, place)?;
         Ok(&self.bytes[place..place + length])
+    }
+}
+
+/// Reads a table, as [`Table::read`] does, with the same errors.
+///
+/// ```
+/// use hainscope::{Refusal, Table, TableBuilder};
+///
+/// let bytes = TableBuilder::new(2, 1).table();
+/// let table: Table = bytes.as_slice().try_into()?;
+/// assert_eq!(table.variables(), 2);
+/// # Ok::<(), Refusal>(())
+/// ```
+impl<'a> TryFrom<&'a [u8]> for Table<'a> {
+    type Error = Refusal;
+
+    fn try_from(bytes: &'a [u8]) -> Result<Table<'a>, Refusal> {
+        Table::read(bytes)
     }
 }

@@ -123,7 +123,7 @@ impl Draft {
 
 /// Sets the last word so that all words add to zero; odd lengths stay as they are.
 pub fn mend(bytes: &mut [u8]) {
-    if bytes.len() >= 2 && bytes.len().is_multiple_of(2) {
+    if bytes.len() >= 2 && bytes.len() % 2 == 0 {
         let word = bytes.len() - 2;
         let sum = bytes[..word].chunks_exact(2).fold(0u16, |sum, two| {
             sum.wrapping_add(u16::from_le_bytes([two[0], two[1]]))

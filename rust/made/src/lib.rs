@@ -6,7 +6,6 @@
 //! another table with the same standing selections, `damage` wrong tables, `edges` both sides of
 //! every limit with the number each must give, `sheet` the sample sheet, `stream` all of them mixed.
 //! `searched` has plans aimed at the search behind the question, each maker at one thing in it.
-#![deny(warnings, missing_docs)]
 #![forbid(unsafe_code)]
 
 pub mod damage;

@@ -5,7 +5,6 @@
 //! `limits`, `records` and `reading` (Table bytes, Refusal numbers), `body`, `rows` and
 //! `meaning` (Meaning), `selection` and `preferred` (Definitions 3 and 6), `methods` (The two
 //! methods and their counts), `report` (The report), `program` (the two lines).
-#![deny(warnings, missing_docs)]
 #![forbid(unsafe_code)]
 
 pub mod body;

@@ -1,6 +1,5 @@
 //! The second program as a program: reads a table from standard input and prints document 01's
 //! lines, to be laid beside what the proved program prints.
-#![deny(warnings)]
 #![forbid(unsafe_code)]
 
 use std::io::{self, Read, Write};

@@ -149,8 +149,8 @@ fn wrong_length(progress: &Progress, record: &Record) -> bool {
     let length = record.body.len();
     match record.kind {
         HEAD => length != 4,
-        CLAUSE => !length.is_multiple_of(2) || !(2..=2 + 2 * MOST_LITERALS).contains(&length),
-        LINEAR => !length.is_multiple_of(6) || !(6..=6 + 6 * MOST_TERMS).contains(&length),
+        CLAUSE => length % 2 != 0 || !(2..=2 + 2 * MOST_LITERALS).contains(&length),
+        LINEAR => length % 6 != 0 || !(6..=6 + 6 * MOST_TERMS).contains(&length),
         ORDER => length != 2 * usize::from(progress.frame.requests),
         _ => length != 2,
     }

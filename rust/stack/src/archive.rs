@@ -19,7 +19,7 @@ pub fn disassembled(archive: &Path) -> Result<Disassembly, Box<dyn Error>> {
         .args(["-d", "-r", "--no-show-raw-insn"])
         .arg(archive);
     let printed = command.output().map_err(|error| {
-        let program = program.display();
+        let program = program.to_string_lossy();
         format!("{program} cannot be run: {error}")
     })?;
     if !printed.status.success() {

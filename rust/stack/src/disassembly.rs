@@ -194,7 +194,7 @@ fn add_line(function: &mut Function, line: &str) -> Option<()> {
     }
     let text = rest.strip_prefix('\t')?;
     let last = function.instructions.last();
-    let is_behind = last.is_none_or(|last| last.address < address);
+    let is_behind = last.map_or(true, |last| last.address < address);
     function.instructions.push(Instruction {
         address,
         text: text.trim_end().into(),

@@ -2,7 +2,6 @@
 //! of calls by its compiled code: `cargo run --release --offline -p stack [ARCHIVE]`. Without an
 //! archive it is the one that the crate `hainscope` links, and what was measured stands beside it.
 //! It fails where something is above the limit or cannot be followed.
-#![deny(warnings, missing_docs)]
 #![forbid(unsafe_code)]
 
 use stack::archive::{disassembled, linked};
