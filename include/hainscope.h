@@ -46,22 +46,22 @@ extern "C" {
 /* The most bytes of stack that a call uses below its caller. */
 #define HAINSCOPE_MOST_STACK 6656
 
-/* What a call returns. Each number stands for one reason; docs/FORMAT.md has the place of each. */
+/* What a call returns. docs/FORMAT.md has the place of each refusal. */
 enum hainscope_refusal {
     HAINSCOPE_ACCEPTED = 0,
-    HAINSCOPE_TABLE_TOO_LONG = 1,       /* more than 32,768 bytes */
-    HAINSCOPE_RECORD_CUT_SHORT = 2,     /* 1 to 3 bytes left, or a body that passes the end */
-    HAINSCOPE_HEAD_MISPLACED = 3,       /* the first record is no HEAD, a later one is, or the table is empty */
-    HAINSCOPE_UNKNOWN_KIND = 4,         /* a kind that no table has */
-    HAINSCOPE_WRONG_LENGTH = 5,         /* a body length that its kind does not have */
-    HAINSCOPE_OUT_OF_RANGE = 6,         /* a number of variables or requests, a role, variable, weight or request */
-    HAINSCOPE_WRONG_SEQUENCE = 7,       /* a record at the wrong place, or the end before CHECK */
-    HAINSCOPE_ORDER_REPEATS = 8,        /* ORDER names a request twice */
-    HAINSCOPE_CHECK_FAILS = 9,          /* the words do not add to zero */
-    HAINSCOPE_TOO_MANY_ROWS = 10,       /* a 513th row */
-    HAINSCOPE_SELECTION_ABOVE = 11,     /* the selection names a request above N */
-    HAINSCOPE_NO_ROOM = 12,             /* start past the buffer's end, or fewer than 12 + 2N bytes from it */
-    HAINSCOPE_NO_SUCH_RECORD = 13       /* the table has no record of that number */
+    HAINSCOPE_TABLE_TOO_LONG = 1,                   /* more than 32,768 bytes */
+    HAINSCOPE_RECORD_CUT_SHORT = 2,                 /* 1 to 3 bytes left, or a body that passes the end */
+    HAINSCOPE_HEAD_MISSING_OR_REPEATED = 3,         /* no HEAD first, a later one, or an empty table */
+    HAINSCOPE_UNKNOWN_KIND = 4,                     /* a kind that no table has */
+    HAINSCOPE_WRONG_LENGTH = 5,                     /* a body length that its kind does not have */
+    HAINSCOPE_NUMBER_OUT_OF_RANGE = 6,              /* V, N, a role, variable, weight or order number */
+    HAINSCOPE_WRONG_SEQUENCE = 7,                   /* a record out of sequence, or the end before CHECK */
+    HAINSCOPE_REQUEST_TWICE_IN_ORDER = 8,           /* ORDER names a request twice */
+    HAINSCOPE_WORDS_DO_NOT_ADD_TO_ZERO = 9,         /* the CHECK word does not fit the others */
+    HAINSCOPE_TOO_MANY_ROWS = 10,                   /* a 513th row */
+    HAINSCOPE_SELECTED_REQUEST_NOT_IN_TABLE = 11,   /* a selection names a request above N */
+    HAINSCOPE_NO_ROOM = 12,                         /* start past the end, or fewer than 12 + 2N bytes */
+    HAINSCOPE_NO_SUCH_RECORD = 13                   /* no record of that number */
 };
 
 /* The kind of a report's record, and its status. */

@@ -39,8 +39,8 @@ pub enum Reason {
     TooManyRows,
     /// 11: a selection names a request that the table does not have.
     SelectedRequestNotInTable,
-    /// 12: a buffer has too little room for a report.
-    NoRoomForReport,
+    /// 12: a buffer has too little room.
+    NoRoom,
     /// 13: the table has no record of the number that was asked for.
     NoSuchRecord,
     /// Any other number, which this version of the crate does not know.
@@ -62,7 +62,7 @@ impl Reason {
             9 => Reason::WordsDoNotAddToZero,
             10 => Reason::TooManyRows,
             11 => Reason::SelectedRequestNotInTable,
-            12 => Reason::NoRoomForReport,
+            12 => Reason::NoRoom,
             13 => Reason::NoSuchRecord,
             _ => Reason::Unlisted,
         }
@@ -82,7 +82,7 @@ impl Reason {
             | Reason::WordsDoNotAddToZero
             | Reason::TooManyRows => "table",
             Reason::SelectedRequestNotInTable
-            | Reason::NoRoomForReport
+            | Reason::NoRoom
             | Reason::NoSuchRecord
             | Reason::Unlisted => "call",
         }
@@ -116,7 +116,7 @@ impl Reason {
             Reason::SelectedRequestNotInTable => {
                 "the selection names a request above the table's number of requests"
             }
-            Reason::NoRoomForReport => {
+            Reason::NoRoom => {
                 "the start is past the end of the buffer, or fewer than 12 + 2N bytes are left \
                  from it, N being the table's number of requests"
             }

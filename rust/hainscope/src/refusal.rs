@@ -23,7 +23,7 @@ use std::fmt;
 /// ```
 #[derive(Clone, Copy, PartialEq, Eq, Hash)]
 pub struct Refusal {
-    /// The number in document 01's list of refusals.
+    /// The number in the list of refusals (docs/FORMAT.md).
     pub number: u32,
     /// A byte place in the table: that of the record, 0, or the table's length, as the list says.
     pub place: usize,

@@ -15,7 +15,7 @@ const LIST: [(u32, Reason, &str); 17] = [
     (9, Reason::WordsDoNotAddToZero, "table"),
     (10, Reason::TooManyRows, "table"),
     (11, Reason::SelectedRequestNotInTable, "call"),
-    (12, Reason::NoRoomForReport, "call"),
+    (12, Reason::NoRoom, "call"),
     (13, Reason::NoSuchRecord, "call"),
     (0, Reason::Unlisted, "call"),
     (14, Reason::Unlisted, "call"),

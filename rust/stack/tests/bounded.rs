@@ -47,3 +47,10 @@ fn no_call_uses_more_than_its_code_can() {
         assert!(painted <= bounded, "{both}");
     }
 }
+
+#[test]
+fn the_header_tells_the_limit() {
+    let header = include_str!("../../../include/hainscope.h");
+    let line = format!("#define HAINSCOPE_MOST_STACK {MOST_STACK}\n");
+    assert!(header.contains(&line));
+}
