@@ -1,4 +1,4 @@
-//! The reasons for a refusal: document 01's list of refusal numbers, with a name and words for each.
+//! The reasons for a refusal: the list of refusal numbers (docs/FORMAT.md), with a name and words for each.
 
 use std::fmt;
 

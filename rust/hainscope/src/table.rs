@@ -3,15 +3,35 @@
 
 use crate::calls;
 use crate::refusal::Refusal;
+use std::fmt;
 
 /// The most requests that a table may have.
 pub const MOST_REQUESTS: u16 = 64;
 
 /// A table that the proved library has accepted. It borrows the caller's bytes, and may be copied and
-/// shared among threads.
-#[derive(Clone, Copy, Debug, PartialEq, Eq)]
+/// shared among threads. Debugged it tells its sizes, and not its up to 32,768 bytes.
+///
+/// ```
+/// use hainscope::{Table, TableBuilder};
+///
+/// let bytes = TableBuilder::new(3, 2).table();
+/// let table = Table::read(&bytes)?;
+/// assert_eq!(format!("{table:?}"), "Table { variables: 3, requests: 2, length: 22 }");
+/// # Ok::<(), hainscope::Refusal>(())
+/// ```
+#[derive(Clone, Copy, PartialEq, Eq)]
 pub struct Table<'a> {
     bytes: &'a [u8],
+}
+
+impl fmt::Debug for Table<'_> {
+    fn fmt(&self, out: &mut fmt::Formatter) -> fmt::Result {
+        out.debug_struct("Table")
+            .field("variables", &self.variables())
+            .field("requests", &self.requests())
+            .field("length", &self.bytes.len())
+            .finish()
+    }
 }
 
 impl<'a> Table<'a> {
