@@ -2,9 +2,7 @@
 
 use compare::{same, Asked, Tally};
 use hainscope::{Method, Report, Sought, Status, Table};
-use made::events::{any, budget, extreme, SMALL};
-use made::plan::Plan;
-use made::random::Random;
+use made::events::quick;
 use second::methods::Answer;
 use second::report::answer;
 use second::rows::Event;
@@ -35,21 +33,11 @@ fn expected(sought: Sought, answer: Answer) -> Report {
     }
 }
 
-/// An event of a seed that is quickly answered.
-fn event(seed: u64) -> Plan {
-    let mut random = Random::new(seed);
-    match random.below(8) {
-        0 => extreme(&mut random),
-        1 | 2 => budget(&mut random, 6, 8),
-        _ => any(&mut random, SMALL),
-    }
-}
-
 #[test]
 fn made_events() {
     let mut tally = Tally::new();
     for seed in 640_000..644_000 {
-        let bytes = event(seed).table();
+        let bytes = quick(seed).table();
         let table = Table::read(&bytes).expect("a plan's table is valid");
         let event = Event::of(&bytes).expect("the same table");
         for (sought, second_sought) in SOUGHT {

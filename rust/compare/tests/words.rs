@@ -3,23 +3,11 @@
 
 use compare::Tally;
 use hainscope::{Sought, Table};
-use made::events::{any, budget, extreme, SMALL};
-use made::plan::Plan;
-use made::random::Random;
+use made::events::quick;
 use made::sheet::sheet;
 use second::meaning::Granted;
 use second::rows::Event;
 use second::selection::{only, selection_of, NONE};
-
-/// An event of a seed that is quickly answered.
-fn event(seed: u64) -> Plan {
-    let mut random = Random::new(seed);
-    match random.below(8) {
-        0 => extreme(&mut random),
-        1 | 2 => budget(&mut random, 6, 8),
-        _ => any(&mut random, SMALL),
-    }
-}
 
 /// What a line says.
 struct Claim {
@@ -71,7 +59,7 @@ fn claim(line: &str, order: &[u16]) -> Claim {
 fn what_a_line_says_is_true() {
     let mut tally = Tally::new();
     for seed in 650_000..656_000 {
-        let bytes = event(seed).table();
+        let bytes = quick(seed).table();
         let table = Table::read(&bytes).expect("a plan's table is valid");
         let event = Event::of(&bytes).expect("the same table");
         let granted = Granted::by(&event);

@@ -40,6 +40,16 @@ pub const WHOLE: Sizes = Sizes {
     rows: 200,
 };
 
+/// An event of any shape whose reports the second program finds quickly.
+pub fn quick(seed: u64) -> Plan {
+    let mut random = Random::new(seed);
+    match random.below(8) {
+        0 => extreme(&mut random),
+        1 | 2 => budget(&mut random, 6, 8),
+        _ => any(&mut random, SMALL),
+    }
+}
+
 /// An event with rows of any sort.
 pub fn any(random: &mut Random, sizes: Sizes) -> Plan {
     let mut plan = Plan::empty(
