@@ -21,6 +21,7 @@ from_input() {
     "$@" <"$file"
 }
 
+# the command with a closed input, with a closed output, and with an output that takes nothing
 without_input() { "$@" <&-; }
 without_output() { "$@" >&-; }
 to_full_output() { "$@" >/dev/full; }
