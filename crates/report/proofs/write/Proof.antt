@@ -20,7 +20,10 @@ same-length : tie.Need-same-length
 same-length c = search needs
 
 returns : tie.Need-returns
-returns c = whole _ _ _ _ _ _ _ _ _ (c .before .before .before .before .before .before .before .before .before .before .before .pre .enough) (c .before .before .before .before .before .before .put-numbers .ensures) (c .before .before .put-head .ensures)
+returns c =
+    let known = c .before .before .before .before .before .before .before .before .before .before .before .pre in
+    let put-numbers = c .before .before .before .before .before .before .put-numbers in
+    whole _ _ _ _ _ _ _ _ _ (known .enough) (put-numbers .ensures) (c .before .before .put-head .ensures)
 
 pub write-spec : {M : Type 1} → statement M
 write-spec =

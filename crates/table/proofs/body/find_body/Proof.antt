@@ -18,10 +18,14 @@ enum-known-told : tie.Need-enum-known-told
 enum-known-told c = search needs
 
 returns : tie.Need-returns
-returns c = found-in-accepted (c .before .before .before .before .before .args .table .now) (c .before .before .before .before .before .args .wanted) _ (c .walk .result) (sym (c .before .before .before .read .ensures) ∙ c .before .enum-told .given .1) (c .walk .ensures)
+returns c =
+    let entry = c .before .before .before .before .before .args in
+    found-in-accepted (entry .table .now) (entry .wanted) _ (c .walk .result) (sym (c .before .before .before .read .ensures) ∙ c .before .enum-told .given .1) (c .walk .ensures)
 
 returns-2 : tie.Need-returns-2
-returns-2 c = refused-body (c .before .before .before .before .before .args .table .now) (c .before .before .before .before .before .args .wanted) _ (sym (c .before .before .before .read .ensures) ∙ c .before .told .given .1)
+returns-2 c =
+    let entry = c .before .before .before .before .before .args in
+    refused-body (entry .table .now) (entry .wanted) _ (sym (c .before .before .before .read .ensures) ∙ c .before .told .given .1)
 
 pub find-body-spec : {M : Type 1} → statement M
 find-body-spec =

@@ -34,7 +34,10 @@ loop-less : tie.Need-loop-less Inv-loop μ-loop
 loop-less c = omega arith
 
 loop-again : tie.Need-loop-again Inv-loop μ-loop
-loop-again c = (omega arith, omega arith, sum-turn (c .before .before .before .before .before .args .table .now) (c .before .before .before .loop .at) (c .before .before .before .loop .left) (c .before .before .loop-test .taken) (c .before .before .before .loop .sum) (c .before .word .result) (c .wrapping-add-u16 .result) (c .before .word .ensures .0) (c .wrapping-add-u16 .ensures) ∙ c .before .before .before .loop .inv .2)
+loop-again c =
+    let entry = c .before .before .before .before .before .args in
+    let loop = c .before .before .before .loop in
+    (omega arith, omega arith, sum-turn (entry .table .now) (loop .at) (loop .left) (c .before .before .loop-test .taken) (loop .sum) (c .before .word .result) (c .wrapping-add-u16 .result) (c .before .word .ensures .0) (c .wrapping-add-u16 .ensures) ∙ loop .inv .2)
 
 returns : tie.Need-returns Inv-loop μ-loop
 returns c = sym (empty-sum (c .before .before .before .args .table .now) (c .before .loop .at) (c .before .loop .left) (c .before .loop .sum) (c .loop-test .left) (c .before .loop .inv .1)) ∙ c .before .loop .inv .2

@@ -21,7 +21,10 @@ number-requires : tie.Need-number-requires Inv-loop μ-loop
 number-requires c κs = omega arith
 
 returns : tie.Need-returns Inv-loop μ-loop
-returns c = sym (among-here (c .before .before .before .before .before .args .table .now) (c .before .before .before .loop .at) (c .before .before .before .loop .left) (c .before .before .before .before .before .args .wanted) (c .before .before .loop-test .taken) (omega arith)) ∙ c .before .before .before .loop .inv .1
+returns c =
+    let entry = c .before .before .before .before .before .args in
+    let loop = c .before .before .before .loop in
+    sym (among-here (entry .table .now) (loop .at) (loop .left) (entry .wanted) (c .before .before .loop-test .taken) (omega arith)) ∙ loop .inv .1
 
 add-at : tie.Need-add-at Inv-loop μ-loop
 add-at c = omega arith
@@ -33,10 +36,15 @@ loop-less : tie.Need-loop-less Inv-loop μ-loop
 loop-less c = omega arith
 
 loop-again : tie.Need-loop-again Inv-loop μ-loop
-loop-again c = (omega arith, sym (among-later (c .before .before .before .before .before .args .table .now) (c .before .before .before .loop .at) (c .before .before .before .loop .left) (c .before .before .before .before .before .args .wanted) (c .before .before .loop-test .taken) (omega arith)) ∙ c .before .before .before .loop .inv .1)
+loop-again c =
+    let entry = c .before .before .before .before .before .args in
+    let loop = c .before .before .before .loop in
+    (omega arith, sym (among-later (entry .table .now) (loop .at) (loop .left) (entry .wanted) (c .before .before .loop-test .taken) (omega arith)) ∙ loop .inv .1)
 
 returns-2 : tie.Need-returns-2 Inv-loop μ-loop
-returns-2 c = sym (among-none (c .before .before .before .args .table .now) (c .before .loop .at) (c .before .loop .left) (c .before .before .before .args .wanted) (c .loop-test .left)) ∙ c .before .loop .inv .1
+returns-2 c =
+    let entry = c .before .before .before .args in
+    sym (among-none (entry .table .now) (c .before .loop .at) (c .before .loop .left) (entry .wanted) (c .loop-test .left)) ∙ c .before .loop .inv .1
 
 pub is-among-spec : {M : Type 1} → statement M
 is-among-spec =

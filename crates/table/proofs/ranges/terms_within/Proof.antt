@@ -22,7 +22,10 @@ number-requires : tie.Need-number-requires Inv-loop μ-loop
 number-requires c κs = omega arith
 
 returns : tie.Need-returns Inv-loop μ-loop
-returns c = sym (term-variable-out (c .before .before .before .before .before .args .table .now) (c .before .before .before .loop .at) (c .before .before .before .loop .left) (c .before .before .before .before .before .args .variables) (c .before .before .loop-test .taken) (omega arith)) ∙ c .before .before .before .loop .inv .1
+returns c =
+    let entry = c .before .before .before .before .before .args in
+    let loop = c .before .before .before .loop in
+    sym (term-variable-out (entry .table .now) (loop .at) (loop .left) (entry .variables) (c .before .before .loop-test .taken) (omega arith)) ∙ loop .inv .1
 
 add-long-number : tie.Need-add-long-number Inv-loop μ-loop
 add-long-number c = omega arith
@@ -34,7 +37,12 @@ magnitude-requires : tie.Need-magnitude-requires Inv-loop μ-loop
 magnitude-requires c κs = omega arith
 
 returns-2 : tie.Need-returns-2 Inv-loop μ-loop
-returns-2 c = sym (term-weight-out (c .before .before .before .before .before .before .before .before .args .table .now) (c .before .before .before .before .before .before .loop .at) (c .before .before .before .before .before .before .loop .left) (c .before .before .before .before .before .before .before .before .args .variables) (c .before .before .before .before .before .loop-test .taken) (c .before .before .long-number .result) (c .before .magnitude .result) (c .before .before .long-number .ensures .0) (c .before .magnitude .ensures) (c .if2 .taken)) ∙ c .before .before .before .before .before .before .loop .inv .1
+returns-2 c =
+    let entry = c .before .before .before .before .before .before .before .before .args in
+    let loop = c .before .before .before .before .before .before .loop in
+    let loop-test = c .before .before .before .before .before .loop-test in
+    let long-number = c .before .before .long-number in
+    sym (term-weight-out (entry .table .now) (loop .at) (loop .left) (entry .variables) (loop-test .taken) (long-number .result) (c .before .magnitude .result) (long-number .ensures .0) (c .before .magnitude .ensures) (c .if2 .taken)) ∙ loop .inv .1
 
 add-at : tie.Need-add-at Inv-loop μ-loop
 add-at c = omega arith
@@ -46,10 +54,17 @@ loop-less : tie.Need-loop-less Inv-loop μ-loop
 loop-less c = omega arith
 
 loop-again : tie.Need-loop-again Inv-loop μ-loop
-loop-again c = (omega arith, sym (term-within (c .before .before .before .before .before .before .before .before .args .table .now) (c .before .before .before .before .before .before .loop .at) (c .before .before .before .before .before .before .loop .left) (c .before .before .before .before .before .before .before .before .args .variables) (c .before .before .before .before .before .loop-test .taken) (c .before .before .long-number .result) (c .before .magnitude .result) (c .before .before .long-number .ensures .0) (c .before .magnitude .ensures) (omega arith) (c .if2 .left)) ∙ c .before .before .before .before .before .before .loop .inv .1)
+loop-again c =
+    let entry = c .before .before .before .before .before .before .before .before .args in
+    let loop = c .before .before .before .before .before .before .loop in
+    let loop-test = c .before .before .before .before .before .loop-test in
+    let long-number = c .before .before .long-number in
+    (omega arith, sym (term-within (entry .table .now) (loop .at) (loop .left) (entry .variables) (loop-test .taken) (long-number .result) (c .before .magnitude .result) (long-number .ensures .0) (c .before .magnitude .ensures) (omega arith) (c .if2 .left)) ∙ loop .inv .1)
 
 returns-3 : tie.Need-returns-3 Inv-loop μ-loop
-returns-3 c = sym (no-term (c .before .before .before .args .table .now) (c .before .loop .at) (c .before .loop .left) (c .before .before .before .args .variables) (c .loop-test .left)) ∙ c .before .loop .inv .1
+returns-3 c =
+    let entry = c .before .before .before .args in
+    sym (no-term (entry .table .now) (c .before .loop .at) (c .before .loop .left) (entry .variables) (c .loop-test .left)) ∙ c .before .loop .inv .1
 
 pub terms-within-spec : {M : Type 1} → statement M
 terms-within-spec =

@@ -22,10 +22,16 @@ number-requires : tie.Need-number-requires Inv-loop μ-loop
 number-requires c κs = omega arith
 
 returns : tie.Need-returns Inv-loop μ-loop
-returns c = sym (word-below (c .before .before .before .before .before .args .table .now) (c .before .before .before .loop .at) (c .before .before .before .loop .left) (c .before .before .before .before .before .args .low) (c .before .before .before .before .before .args .high) (c .before .before .loop-test .taken) (omega arith)) ∙ c .before .before .before .loop .inv .1
+returns c =
+    let entry = c .before .before .before .before .before .args in
+    let loop = c .before .before .before .loop in
+    sym (word-below (entry .table .now) (loop .at) (loop .left) (entry .low) (entry .high) (c .before .before .loop-test .taken) (omega arith)) ∙ loop .inv .1
 
 returns-2 : tie.Need-returns-2 Inv-loop μ-loop
-returns-2 c = sym (word-above (c .before .before .before .before .before .before .args .table .now) (c .before .before .before .before .loop .at) (c .before .before .before .before .loop .left) (c .before .before .before .before .before .before .args .low) (c .before .before .before .before .before .before .args .high) (c .before .before .before .loop-test .taken) (omega arith)) ∙ c .before .before .before .before .loop .inv .1
+returns-2 c =
+    let entry = c .before .before .before .before .before .before .args in
+    let loop = c .before .before .before .before .loop in
+    sym (word-above (entry .table .now) (loop .at) (loop .left) (entry .low) (entry .high) (c .before .before .before .loop-test .taken) (omega arith)) ∙ loop .inv .1
 
 add-at : tie.Need-add-at Inv-loop μ-loop
 add-at c = omega arith
@@ -37,10 +43,15 @@ loop-less : tie.Need-loop-less Inv-loop μ-loop
 loop-less c = omega arith
 
 loop-again : tie.Need-loop-again Inv-loop μ-loop
-loop-again c = (omega arith, sym (word-within (c .before .before .before .before .before .before .args .table .now) (c .before .before .before .before .loop .at) (c .before .before .before .before .loop .left) (c .before .before .before .before .before .before .args .low) (c .before .before .before .before .before .before .args .high) (c .before .before .before .loop-test .taken) (omega arith) (omega arith)) ∙ c .before .before .before .before .loop .inv .1)
+loop-again c =
+    let entry = c .before .before .before .before .before .before .args in
+    let loop = c .before .before .before .before .loop in
+    (omega arith, sym (word-within (entry .table .now) (loop .at) (loop .left) (entry .low) (entry .high) (c .before .before .before .loop-test .taken) (omega arith) (omega arith)) ∙ loop .inv .1)
 
 returns-3 : tie.Need-returns-3 Inv-loop μ-loop
-returns-3 c = sym (no-word (c .before .before .before .args .table .now) (c .before .loop .at) (c .before .loop .left) (c .before .before .before .args .low) (c .before .before .before .args .high) (c .loop-test .left)) ∙ c .before .loop .inv .1
+returns-3 c =
+    let entry = c .before .before .before .args in
+    sym (no-word (entry .table .now) (c .before .loop .at) (c .before .loop .left) (entry .low) (entry .high) (c .loop-test .left)) ∙ c .before .loop .inv .1
 
 pub words-within-spec : {M : Type 1} → statement M
 words-within-spec =

@@ -30,33 +30,60 @@ enum-known-told : tie.Need-enum-known-told Inv-loop μ-loop
 enum-known-told c = search needs
 
 add-at : tie.Need-add-at Inv-loop μ-loop
-add-at c = omega (arith, (next-passed (c .before .before .before .before .before .before .before .before .args .table .now) (c .before .before .before .before .before .loop .at) (c .before .before .before .before .before .loop .state) (c .before .told .given .0 .0) (sym (c .before .before .before .step .ensures) ∙ c .before .told .given .1)) .whole)
+add-at c =
+    let entry = c .before .before .before .before .before .before .before .before .args in
+    let loop = c .before .before .before .before .before .loop in
+    omega (arith, (next-passed (entry .table .now) (loop .at) (loop .state) (c .before .told .given .0 .0) (sym (c .before .before .before .step .ensures) ∙ c .before .told .given .1)) .whole)
 
 number-requires : tie.Need-number-requires Inv-loop μ-loop
-number-requires c κs = omega (arith, (next-passed (c .before .before .before .before .before .before .before .before .args .table .now) (c .before .before .before .before .before .loop .at) (c .before .before .before .before .before .loop .state) (c .before .told .given .0 .0) (sym (c .before .before .before .step .ensures) ∙ c .before .told .given .1)) .whole)
+number-requires c κs =
+    let entry = c .before .before .before .before .before .before .before .before .args in
+    let loop = c .before .before .before .before .before .loop in
+    omega (arith, (next-passed (entry .table .now) (loop .at) (loop .state) (c .before .told .given .0 .0) (sym (c .before .before .before .step .ensures) ∙ c .before .told .given .1)) .whole)
 
 add-at-2 : tie.Need-add-at-2 Inv-loop μ-loop
-add-at-2 c = omega (arith, (next-passed (c .before .before .before .before .before .before .before .before .before .args .table .now) (c .before .before .before .before .before .before .loop .at) (c .before .before .before .before .before .before .loop .state) (c .before .before .told .given .0 .0) (sym (c .before .before .before .before .step .ensures) ∙ c .before .before .told .given .1)) .whole)
+add-at-2 c =
+    let entry = c .before .before .before .before .before .before .before .before .before .args in
+    let loop = c .before .before .before .before .before .before .loop in
+    let told = c .before .before .told in
+    omega (arith, (next-passed (entry .table .now) (loop .at) (loop .state) (told .given .0 .0) (sym (c .before .before .before .before .step .ensures) ∙ told .given .1)) .whole)
 
 loop-less : tie.Need-loop-less Inv-loop μ-loop
-loop-less c = omega (arith, (next-passed (c .before .before .before .before .before .before .before .before .before .args .table .now) (c .before .before .before .before .before .before .loop .at) (c .before .before .before .before .before .before .loop .state) (c .before .before .told .given .0 .0) (sym (c .before .before .before .before .step .ensures) ∙ c .before .before .told .given .1)) .whole)
+loop-less c =
+    let entry = c .before .before .before .before .before .before .before .before .before .args in
+    let loop = c .before .before .before .before .before .before .loop in
+    let told = c .before .before .told in
+    omega (arith, (next-passed (entry .table .now) (loop .at) (loop .state) (told .given .0 .0) (sym (c .before .before .before .before .step .ensures) ∙ told .given .1)) .whole)
 
 loop-again : tie.Need-loop-again Inv-loop μ-loop
-loop-again c = (omega (arith, (next-passed (c .before .before .before .before .before .before .before .before .before .args .table .now) (c .before .before .before .before .before .before .loop .at) (c .before .before .before .before .before .before .loop .state) (c .before .before .told .given .0 .0) (sym (c .before .before .before .before .step .ensures) ∙ c .before .before .told .given .1)) .whole), small-next (c .before .before .before .before .before .before .before .before .before .args .table .now) (c .before .before .before .before .before .before .loop .at) (c .before .before .before .before .before .before .loop .state) (c .before .before .told .given .0 .0) (c .before .before .before .before .before .before .loop .inv .1) (next-passed (c .before .before .before .before .before .before .before .before .before .args .table .now) (c .before .before .before .before .before .before .loop .at) (c .before .before .before .before .before .before .loop .state) (c .before .before .told .given .0 .0) (sym (c .before .before .before .before .step .ensures) ∙ c .before .before .told .given .1)), (c .before .before .before .before .before .before .loop .inv .2 .0 - 1, omega arith, scan-goes-on (c .before .before .before .before .before .before .loop .inv .2 .0) (c .before .before .before .before .before .before .before .before .before .args .table .now) (c .before .before .before .before .before .before .loop .at) (c .before .before .before .before .before .before .loop .state) (c .before .before .before .before .before .loop-test .taken) (c .before .before .before .before .before .before .loop .inv .2 .1) (c .before .before .told .given .0 .0) (c .number .result) (c .number .ensures .0) (sym (c .before .before .before .before .step .ensures) ∙ c .before .before .told .given .1) ∙ c .before .before .before .before .before .before .loop .inv .2 .2))
+loop-again c =
+    let entry = c .before .before .before .before .before .before .before .before .before .args in
+    let loop = c .before .before .before .before .before .before .loop in
+    let loop-test = c .before .before .before .before .before .loop-test in
+    let step = c .before .before .before .before .step in
+    let told = c .before .before .told in
+    (omega (arith, (next-passed (entry .table .now) (loop .at) (loop .state) (told .given .0 .0) (sym (step .ensures) ∙ told .given .1)) .whole), small-next (entry .table .now) (loop .at) (loop .state) (told .given .0 .0) (loop .inv .1) (next-passed (entry .table .now) (loop .at) (loop .state) (told .given .0 .0) (sym (step .ensures) ∙ told .given .1)), (loop .inv .2 .0 - 1, omega arith, scan-goes-on (loop .inv .2 .0) (entry .table .now) (loop .at) (loop .state) (loop-test .taken) (loop .inv .2 .1) (told .given .0 .0) (c .number .result) (c .number .ensures .0) (sym (step .ensures) ∙ told .given .1) ∙ loop .inv .2 .2))
 
 enum-known-told-2 : tie.Need-enum-known-told-2 Inv-loop μ-loop
 enum-known-told-2 c = search needs
 
 returns-2 : tie.Need-returns-2 Inv-loop μ-loop
 unfolding reading
-returns-2 c = rw (le-ltb 32768 (length (c .before .before .before .before .before .before .before .before .args .table .now)) (c .before .before .before .before .before .before .if1 .left)) (scan-stops (c .before .before .before .before .before .loop .inv .2 .0) (c .before .before .before .before .before .before .before .before .args .table .now) (c .before .before .before .before .before .loop .at) (c .before .before .before .before .before .loop .state) (c .before .before .before .before .loop-test .taken) (c .before .before .before .before .before .loop .inv .2 .1) (c .before .told2 .given .0 .0) (sym (c .before .before .before .step .ensures) ∙ c .before .told2 .given .1) ∙ c .before .before .before .before .before .loop .inv .2 .2)
+returns-2 c =
+    let entry = c .before .before .before .before .before .before .before .before .args in
+    let if1 = c .before .before .before .before .before .before .if1 in
+    let loop = c .before .before .before .before .before .loop in
+    rw (le-ltb 32768 (length (entry .table .now)) (if1 .left)) (scan-stops (loop .inv .2 .0) (entry .table .now) (loop .at) (loop .state) (c .before .before .before .before .loop-test .taken) (loop .inv .2 .1) (c .before .told2 .given .0 .0) (sym (c .before .before .before .step .ensures) ∙ c .before .told2 .given .1) ∙ loop .inv .2 .2)
 
 ending-requires : tie.Need-ending-requires Inv-loop μ-loop
 ending-requires c κs = search needs
 
 returns-3 : tie.Need-returns-3 Inv-loop μ-loop
 unfolding reading
-returns-3 c = rw (le-ltb 32768 (length (c .before .before .before .before .before .before .args .table .now)) (c .before .before .before .before .if1 .left)) (c .ending .ensures ∙ sym (scan-ends (c .before .before .before .loop .inv .2 .0) (c .before .before .before .before .before .before .args .table .now) (c .before .before .before .loop .at) (c .before .before .before .loop .state) (c .before .before .loop-test .left)) ∙ c .before .before .before .loop .inv .2 .2)
+returns-3 c =
+    let entry = c .before .before .before .before .before .before .args in
+    let loop = c .before .before .before .loop in
+    rw (le-ltb 32768 (length (entry .table .now)) (c .before .before .before .before .if1 .left)) (c .ending .ensures ∙ sym (scan-ends (loop .inv .2 .0) (entry .table .now) (loop .at) (loop .state) (c .before .before .loop-test .left)) ∙ loop .inv .2 .2)
 
 pub read-spec : {M : Type 1} → statement M
 read-spec =

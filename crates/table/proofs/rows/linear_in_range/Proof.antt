@@ -14,7 +14,9 @@ number-requires-2 : tie.Need-number-requires-2
 number-requires-2 c κs = search needs
 
 returns : tie.Need-returns
-returns c = linear-role-out (c .before .before .before .before .args .table .now) (c .before .before .before .before .args .at) (c .before .before .before .before .args .variables) (c .before .before .before .before .args .requests) (c .before .number2 .result) (c .before .before .number .result) (c .before .number2 .ensures .0) (c .if1 .taken)
+returns c =
+    let entry = c .before .before .before .before .args in
+    linear-role-out (entry .table .now) (entry .at) (entry .variables) (entry .requests) (c .before .number2 .result) (c .before .before .number .result) (c .before .number2 .ensures .0) (c .if1 .taken)
 
 add-terms-within : tie.Need-add-terms-within
 add-terms-within c = search needs
@@ -26,7 +28,11 @@ terms-within-requires : tie.Need-terms-within-requires
 terms-within-requires c κs = search needs
 
 returns-2 : tie.Need-returns-2
-returns-2 c = linear-in-range (c .before .before .before .before .before .args .table .now) (c .before .before .before .before .before .args .at) (c .before .before .before .before .before .args .variables) (c .before .before .before .before .before .args .requests) (c .before .before .number2 .result) (c .before .before .before .number .result) (c .before .before .number2 .ensures .0) (c .before .before .before .number .ensures .0) (c .before .if1 .left) (c .terms-within .result) (c .terms-within .ensures)
+returns-2 c =
+    let entry = c .before .before .before .before .before .args in
+    let number = c .before .before .before .number in
+    let number2 = c .before .before .number2 in
+    linear-in-range (entry .table .now) (entry .at) (entry .variables) (entry .requests) (number2 .result) (number .result) (number2 .ensures .0) (number .ensures .0) (c .before .if1 .left) (c .terms-within .result) (c .terms-within .ensures)
 
 pub linear-in-range-spec : {M : Type 1} → statement M
 linear-in-range-spec =

@@ -16,7 +16,9 @@ number-requires c κs = search needs
 
 returns : tie.Need-returns
 unfolding isKnown isHead headFirst inSequence roomForRow lengthRight
-returns c = wrong-length Check (c .before .before .before .args .table .now) (c .before .before .before .args .at) Ordered (c .before .before .before .args .frame) refl refl refl refl (ne-eqb (lengthAt (c .before .before .before .args .table .now) (c .before .before .before .args .at)) 2 (omega arith))
+returns c =
+    let entry = c .before .before .before .args in
+    wrong-length Check (entry .table .now) (entry .at) Ordered (entry .frame) refl refl refl refl (ne-eqb (lengthAt (entry .table .now) (entry .at)) 2 (omega arith))
 
 add-sum-of-words : tie.Need-add-sum-of-words
 add-sum-of-words c = search needs
@@ -26,11 +28,15 @@ sum-of-words-requires c κs = search needs
 
 returns-2 : tie.Need-returns-2
 unfolding isKnown isHead headFirst inSequence roomForRow lengthRight inRange noRepeat addsToZero
-returns-2 c = not-zero Check (c .before .before .before .before .before .args .table .now) (c .before .before .before .before .before .args .at) Ordered (c .before .before .before .before .before .args .frame) refl refl refl refl (eq-eqb (lengthAt (c .before .before .before .before .before .args .table .now) (c .before .before .before .before .before .args .at)) 2 (omega arith)) refl refl (rw (← c .before .sum-of-words .ensures) (ne-eqb (c .before .sum-of-words .result) 0 (c .if2 .taken)))
+returns-2 c =
+    let entry = c .before .before .before .before .before .args in
+    not-zero Check (entry .table .now) (entry .at) Ordered (entry .frame) refl refl refl refl (eq-eqb (lengthAt (entry .table .now) (entry .at)) 2 (omega arith)) refl refl (rw (← c .before .sum-of-words .ensures) (ne-eqb (c .before .sum-of-words .result) 0 (c .if2 .taken)))
 
 returns-3 : tie.Need-returns-3
 unfolding isKnown isHead headFirst inSequence roomForRow lengthRight inRange noRepeat addsToZero nextPhase nextFrame
-returns-3 c = passes-all Check (c .before .before .before .before .before .args .table .now) (c .before .before .before .before .before .args .at) Ordered (c .before .before .before .before .before .args .frame) refl refl refl refl (eq-eqb (lengthAt (c .before .before .before .before .before .args .table .now) (c .before .before .before .before .before .args .at)) 2 (omega arith)) refl refl (rw (← c .before .sum-of-words .ensures) (eq-eqb (c .before .sum-of-words .result) 0 (c .if2 .left)))
+returns-3 c =
+    let entry = c .before .before .before .before .before .args in
+    passes-all Check (entry .table .now) (entry .at) Ordered (entry .frame) refl refl refl refl (eq-eqb (lengthAt (entry .table .now) (entry .at)) 2 (omega arith)) refl refl (rw (← c .before .sum-of-words .ensures) (eq-eqb (c .before .sum-of-words .result) 0 (c .if2 .left)))
 
 pub check-spec : {M : Type 1} → statement M
 check-spec =

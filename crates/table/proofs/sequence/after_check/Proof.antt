@@ -18,19 +18,29 @@ word-requires c κs = search needs
 
 returns : tie.Need-returns
 unfolding kindOf isKnown headFirst isHead
-returns c = λ f. rw (← c .before .word .ensures .0, c .match .keys2) (no-head Head (c .before .before .before .args .table .now) (c .before .before .before .args .at) Checked f refl refl)
+returns c =
+    let entry = c .before .before .before .args in
+    λ f. rw (← c .before .word .ensures .0, c .match .keys2) (no-head Head (entry .table .now) (entry .at) Checked f refl refl)
 
 returns-2 : tie.Need-returns-2
 unfolding headFirst inSequence
-returns-2 c = λ f. rw (← c .before .before .word .ensures .0) (out-of-sequence (kindOf (c .before .before .word .result)) (c .before .before .before .before .args .table .now) (c .before .before .before .before .args .at) Checked f (later-known (c .before .before .word .result) (omega (arith, c .before .match .rest)) (omega (arith, c .before .match .rest))) (rw (later-no-head (c .before .before .word .result) (omega (arith, c .before .match .rest)) (omega (arith, c .before .match .rest)))) refl)
+returns-2 c =
+    let entry = c .before .before .before .before .args in
+    let word = c .before .before .word in
+    λ f. rw (← word .ensures .0) (out-of-sequence (kindOf (word .result)) (entry .table .now) (entry .at) Checked f (later-known (word .result) (omega (arith, c .before .match .rest)) (omega (arith, c .before .match .rest))) (rw (later-no-head (word .result) (omega (arith, c .before .match .rest)) (omega (arith, c .before .match .rest)))) refl)
 
 returns-3 : tie.Need-returns-3
 unfolding kindOf isKnown
-returns-3 c = λ f. rw (← c .before .word .ensures .0, c .match .keys1) (unknown-kind Unknown (c .before .before .before .args .table .now) (c .before .before .before .args .at) Checked f refl)
+returns-3 c =
+    let entry = c .before .before .before .args in
+    λ f. rw (← c .before .word .ensures .0, c .match .keys1) (unknown-kind Unknown (entry .table .now) (entry .at) Checked f refl)
 
 returns-4 : tie.Need-returns-4
 unfolding isKnown
-returns-4 c = λ f. rw (← c .before .before .word .ensures .0, above-five (c .before .before .word .result) (c .if1 .left)) (unknown-kind Unknown (c .before .before .before .before .args .table .now) (c .before .before .before .before .args .at) Checked f refl)
+returns-4 c =
+    let entry = c .before .before .before .before .args in
+    let word = c .before .before .word in
+    λ f. rw (← word .ensures .0, above-five (word .result) (c .if1 .left)) (unknown-kind Unknown (entry .table .now) (entry .at) Checked f refl)
 
 pub after-check-spec : {M : Type 1} → statement M
 after-check-spec =

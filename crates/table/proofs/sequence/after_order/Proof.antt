@@ -21,7 +21,9 @@ check-requires c κs = search needs
 
 returns : tie.Need-returns
 unfolding kindOf isKnown headFirst isHead
-returns c = rw (← c .before .word .ensures .0, c .match .keys2) (no-head Head (c .before .before .before .args .table .now) (c .before .before .before .args .at) Ordered (c .before .before .before .args .frame) refl refl)
+returns c =
+    let entry = c .before .before .before .args in
+    rw (← c .before .word .ensures .0, c .match .keys2) (no-head Head (entry .table .now) (entry .at) Ordered (entry .frame) refl refl)
 
 returns-2 : tie.Need-returns-2
 unfolding kindOf
@@ -29,15 +31,23 @@ returns-2 c = rw (← c .before .before .word .ensures .0, c .before .match .key
 
 returns-3 : tie.Need-returns-3
 unfolding headFirst
-returns-3 c = rw (← c .before .before .word .ensures .0) (out-of-sequence (kindOf (c .before .before .word .result)) (c .before .before .before .before .args .table .now) (c .before .before .before .before .args .at) Ordered (c .before .before .before .before .args .frame) (later-known (c .before .before .word .result) (omega (arith, c .before .match .rest)) (omega (arith, c .before .match .rest))) (rw (later-no-head (c .before .before .word .result) (omega (arith, c .before .match .rest)) (omega (arith, c .before .match .rest)))) (only-check-after-order (c .before .before .word .result) (omega (arith, c .before .match .rest)) (omega (arith, c .before .match .rest))))
+returns-3 c =
+    let entry = c .before .before .before .before .args in
+    let word = c .before .before .word in
+    rw (← word .ensures .0) (out-of-sequence (kindOf (word .result)) (entry .table .now) (entry .at) Ordered (entry .frame) (later-known (word .result) (omega (arith, c .before .match .rest)) (omega (arith, c .before .match .rest))) (rw (later-no-head (word .result) (omega (arith, c .before .match .rest)) (omega (arith, c .before .match .rest)))) (only-check-after-order (word .result) (omega (arith, c .before .match .rest)) (omega (arith, c .before .match .rest))))
 
 returns-4 : tie.Need-returns-4
 unfolding kindOf isKnown
-returns-4 c = rw (← c .before .word .ensures .0, c .match .keys1) (unknown-kind Unknown (c .before .before .before .args .table .now) (c .before .before .before .args .at) Ordered (c .before .before .before .args .frame) refl)
+returns-4 c =
+    let entry = c .before .before .before .args in
+    rw (← c .before .word .ensures .0, c .match .keys1) (unknown-kind Unknown (entry .table .now) (entry .at) Ordered (entry .frame) refl)
 
 returns-5 : tie.Need-returns-5
 unfolding isKnown
-returns-5 c = rw (← c .before .before .word .ensures .0, above-five (c .before .before .word .result) (omega (arith, c .before .match .rest))) (unknown-kind Unknown (c .before .before .before .before .args .table .now) (c .before .before .before .before .args .at) Ordered (c .before .before .before .before .args .frame) refl)
+returns-5 c =
+    let entry = c .before .before .before .before .args in
+    let word = c .before .before .word in
+    rw (← word .ensures .0, above-five (word .result) (omega (arith, c .before .match .rest))) (unknown-kind Unknown (entry .table .now) (entry .at) Ordered (entry .frame) refl)
 
 pub after-order-spec : {M : Type 1} → statement M
 after-order-spec =

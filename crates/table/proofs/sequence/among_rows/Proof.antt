@@ -27,7 +27,9 @@ order-requires c κs = search needs
 
 returns : tie.Need-returns
 unfolding kindOf isKnown headFirst isHead
-returns c = rw (← c .before .word .ensures .0, c .match .keys2) (no-head Head (c .before .before .before .args .table .now) (c .before .before .before .args .at) Rows (c .before .before .before .args .frame) refl refl)
+returns c =
+    let entry = c .before .before .before .args in
+    rw (← c .before .word .ensures .0, c .match .keys2) (no-head Head (entry .table .now) (entry .at) Rows (entry .frame) refl refl)
 
 returns-2 : tie.Need-returns-2
 unfolding kindOf
@@ -43,15 +45,21 @@ returns-4 c = rw (← c .before .before .word .ensures .0, c .before .match .key
 
 returns-5 : tie.Need-returns-5
 unfolding kindOf isKnown headFirst isHead inSequence
-returns-5 c = rw (← c .before .word .ensures .0, c .match .keys6) (out-of-sequence Check (c .before .before .before .args .table .now) (c .before .before .before .args .at) Rows (c .before .before .before .args .frame) refl refl refl)
+returns-5 c =
+    let entry = c .before .before .before .args in
+    rw (← c .before .word .ensures .0, c .match .keys6) (out-of-sequence Check (entry .table .now) (entry .at) Rows (entry .frame) refl refl refl)
 
 returns-6 : tie.Need-returns-6
 unfolding kindOf isKnown
-returns-6 c = rw (← c .before .word .ensures .0, c .match .keys1) (unknown-kind Unknown (c .before .before .before .args .table .now) (c .before .before .before .args .at) Rows (c .before .before .before .args .frame) refl)
+returns-6 c =
+    let entry = c .before .before .before .args in
+    rw (← c .before .word .ensures .0, c .match .keys1) (unknown-kind Unknown (entry .table .now) (entry .at) Rows (entry .frame) refl)
 
 returns-7 : tie.Need-returns-7
 unfolding isKnown
-returns-7 c = rw (← c .before .word .ensures .0, above-five (c .before .word .result) (omega (arith, c .match .rest))) (unknown-kind Unknown (c .before .before .before .args .table .now) (c .before .before .before .args .at) Rows (c .before .before .before .args .frame) refl)
+returns-7 c =
+    let entry = c .before .before .before .args in
+    rw (← c .before .word .ensures .0, above-five (c .before .word .result) (omega (arith, c .match .rest))) (unknown-kind Unknown (entry .table .now) (entry .at) Rows (entry .frame) refl)
 
 pub among-rows-spec : {M : Type 1} → statement M
 among-rows-spec =

@@ -25,15 +25,23 @@ returns c = λ f. rw (← c .before .before .word .ensures .0, c .before .match 
 
 returns-2 : tie.Need-returns-2
 unfolding headFirst
-returns-2 c = λ f. rw (← c .before .before .word .ensures .0) (no-head (kindOf (c .before .before .word .result)) (c .before .before .before .before .args .table .now) (c .before .before .before .before .args .at) Start f (later-known (c .before .before .word .result) (omega (arith, c .before .match .rest)) (omega (arith, c .before .match .rest))) (later-no-head (c .before .before .word .result) (omega (arith, c .before .match .rest)) (omega (arith, c .before .match .rest))))
+returns-2 c =
+    let entry = c .before .before .before .before .args in
+    let word = c .before .before .word in
+    λ f. rw (← word .ensures .0) (no-head (kindOf (word .result)) (entry .table .now) (entry .at) Start f (later-known (word .result) (omega (arith, c .before .match .rest)) (omega (arith, c .before .match .rest))) (later-no-head (word .result) (omega (arith, c .before .match .rest)) (omega (arith, c .before .match .rest))))
 
 returns-3 : tie.Need-returns-3
 unfolding kindOf isKnown
-returns-3 c = λ f. rw (← c .before .word .ensures .0, c .match .keys1) (unknown-kind Unknown (c .before .before .before .args .table .now) (c .before .before .before .args .at) Start f refl)
+returns-3 c =
+    let entry = c .before .before .before .args in
+    λ f. rw (← c .before .word .ensures .0, c .match .keys1) (unknown-kind Unknown (entry .table .now) (entry .at) Start f refl)
 
 returns-4 : tie.Need-returns-4
 unfolding isKnown
-returns-4 c = λ f. rw (← c .before .before .word .ensures .0, above-five (c .before .before .word .result) (c .if1 .left)) (unknown-kind Unknown (c .before .before .before .before .args .table .now) (c .before .before .before .before .args .at) Start f refl)
+returns-4 c =
+    let entry = c .before .before .before .before .args in
+    let word = c .before .before .word in
+    λ f. rw (← word .ensures .0, above-five (word .result) (c .if1 .left)) (unknown-kind Unknown (entry .table .now) (entry .at) Start f refl)
 
 pub first-spec : {M : Type 1} → statement M
 first-spec =

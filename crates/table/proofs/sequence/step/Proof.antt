@@ -10,13 +10,17 @@ sub-left : tie.Need-sub-left
 sub-left c = search needs
 
 returns : tie.Need-returns
-returns c = cut-head (c .before .before .args .table .now) (c .before .before .args .at) (c .before .before .args .state) (omega arith)
+returns c =
+    let entry = c .before .before .args in
+    cut-head (entry .table .now) (entry .at) (entry .state) (omega arith)
 
 number-requires : tie.Need-number-requires
 number-requires c κs = search needs
 
 returns-2 : tie.Need-returns-2
-returns-2 c = cut-body (c .before .before .before .before .args .table .now) (c .before .before .before .before .args .at) (c .before .before .before .before .args .state) (omega arith)
+returns-2 c =
+    let entry = c .before .before .before .before .args in
+    cut-body (entry .table .now) (entry .at) (entry .state) (omega arith)
 
 enum-told : tie.Need-enum-told
 enum-told c = search needs
@@ -43,16 +47,24 @@ after-check-requires : tie.Need-after-check-requires
 after-check-requires c κs = search needs
 
 returns-3 : tie.Need-returns-3
-returns-3 c = whole-step (c .before .before .before .before .before .before .before .before .args .table .now) (c .before .before .before .before .before .before .before .before .args .at) (c .before .before .before .before .before .before .before .before .args .state) Start (c .before .enum-told .given .1) (omega arith) (c .first .result) (c .first .ensures (c .before .before .before .before .before .before .before .before .args .state .frame))
+returns-3 c =
+    let entry = c .before .before .before .before .before .before .before .before .args in
+    whole-step (entry .table .now) (entry .at) (entry .state) Start (c .before .enum-told .given .1) (omega arith) (c .first .result) (c .first .ensures (entry .state .frame))
 
 returns-4 : tie.Need-returns-4
-returns-4 c = whole-step (c .before .before .before .before .before .before .before .before .args .table .now) (c .before .before .before .before .before .before .before .before .args .at) (c .before .before .before .before .before .before .before .before .args .state) Rows (c .before .enum-told2 .given .1) (omega arith) (c .among-rows .result) (c .among-rows .ensures)
+returns-4 c =
+    let entry = c .before .before .before .before .before .before .before .before .args in
+    whole-step (entry .table .now) (entry .at) (entry .state) Rows (c .before .enum-told2 .given .1) (omega arith) (c .among-rows .result) (c .among-rows .ensures)
 
 returns-5 : tie.Need-returns-5
-returns-5 c = whole-step (c .before .before .before .before .before .before .before .before .args .table .now) (c .before .before .before .before .before .before .before .before .args .at) (c .before .before .before .before .before .before .before .before .args .state) Ordered (c .before .enum-told3 .given .1) (omega arith) (c .after-order .result) (c .after-order .ensures)
+returns-5 c =
+    let entry = c .before .before .before .before .before .before .before .before .args in
+    whole-step (entry .table .now) (entry .at) (entry .state) Ordered (c .before .enum-told3 .given .1) (omega arith) (c .after-order .result) (c .after-order .ensures)
 
 returns-6 : tie.Need-returns-6
-returns-6 c = whole-step (c .before .before .before .before .before .before .before .before .args .table .now) (c .before .before .before .before .before .before .before .before .args .at) (c .before .before .before .before .before .before .before .before .args .state) Checked (c .before .enum-told4 .given .1) (omega arith) (c .after-check .result) (c .after-check .ensures (c .before .before .before .before .before .before .before .before .args .state .frame))
+returns-6 c =
+    let entry = c .before .before .before .before .before .before .before .before .args in
+    whole-step (entry .table .now) (entry .at) (entry .state) Checked (c .before .enum-told4 .given .1) (omega arith) (c .after-check .result) (c .after-check .ensures (entry .state .frame))
 
 pub step-spec : {M : Type 1} → statement M
 step-spec =

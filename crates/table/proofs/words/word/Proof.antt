@@ -26,11 +26,15 @@ mul-result : tie.Need-mul-result
 mul-result c = record { fits = omega (arith, c .shared-slice-known2 .given (c .before .before .args .at + 1)) }
 
 add-result-2 : tie.Need-add-result-2
-add-result-2 c = omega (arith, c .shared-slice-known2 .given (c .before .before .args .at + 1), c .before .shared-slice-known .given (c .before .before .args .at))
+add-result-2 c =
+    let entry = c .before .before .args in
+    omega (arith, c .shared-slice-known2 .given (entry .at + 1), c .before .shared-slice-known .given (entry .at))
 
 returns : tie.Need-returns
 unfolding u16At
-returns c = (refl, omega (arith, c .shared-slice-known2 .given (c .before .before .args .at + 1), c .before .shared-slice-known .given (c .before .before .args .at)))
+returns c =
+    let entry = c .before .before .args in
+    (refl, omega (arith, c .shared-slice-known2 .given (entry .at + 1), c .before .shared-slice-known .given (entry .at)))
 
 pub word-spec : {M : Type 1} → statement M
 word-spec =
