@@ -14,7 +14,7 @@ use Rattle.explain.specs.declared.answers.Method.{Method}
 use Rattle.explain.specs.declared.answers.Method.the-variants.{ConflictByHalving, ConflictOneByOne, RelaxationByHalving, RelaxationOneByOne}
 use Rattle.explain.specs.declared.answers.Begun.{Begun}
 use Rattle.explain.specs.declared.answers.Begun.the-variants.{AllStand, HostFails, Open}
-use Rattle.explain.specs.Parts.{Tells, InGround, OutOfGround, ConflictWorked, RelaxationWorked}
+use Rattle.explain.specs.Parts.{Worked, InGround, OutOfGround, ConflictWorked, RelaxationWorked}
 use Rattle.explain.specs.Methods.{answerBy, wholeBy, workedBy, finished, leftBy, BegunWell, Begins, Answers}
 use Rattle.explain.proofs.ConflictParts.{few-in-conflict}
 use Rattle.explain.proofs.RelaxationParts.{few-in-relaxation}
@@ -38,7 +38,7 @@ module _ (X : Selection) (nobody : X ≡ none (length X)) (some : 0 < length X) 
 
   module _ (ok : Question) (F : Selection) (found asked : ℕ) (long : length F ≡ length X) where
     pub conflict-told :
-        ConflictWorked ok 0 (length X) false X F found asked → Tells (halveConflict ok (middle (length X)) 0 false []) F asked
+        ConflictWorked ok 0 (length X) false X F found asked → Worked (halveConflict ok (middle (length X)) 0 false []) F asked
     unfolding all
     conflict-told worked =
         let l = worked [] in-front in
@@ -49,7 +49,7 @@ module _ (X : Selection) (nobody : X ≡ none (length X)) (some : 0 < length X) 
         }
 
     pub relaxation-told :
-        RelaxationWorked ok 0 (length X) false X F found asked → Tells (halveRelax ok (middle (length X)) [] 0 false) F asked
+        RelaxationWorked ok 0 (length X) false X F found asked → Worked (halveRelax ok (middle (length X)) [] 0 false) F asked
     unfolding none
     relaxation-told worked =
         let l = worked [] 0 refl behind in
@@ -98,7 +98,7 @@ module _ (method : Method) (ok : Question) (n : ℕ) (begun : Begun) (F : Select
       begun ≡ Open →
       (G : Selection) (asked : ℕ) →
       length G ≡ n →
-      Tells (workedBy method ok n) G asked →
+      Worked (workedBy method ok n) G asked →
       Answers (answerBy method ok n) n G 1 (2 + asked)
   unfolding finished
   answers-worked b G asked long tells =

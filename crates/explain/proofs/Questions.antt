@@ -14,7 +14,7 @@ use Rattle.table.specs.Limits.{mostRequests, within}
 use Rattle.table.specs.Kept.{rowsOf}
 use Rattle.table.proofs.Steps.{both}
 use Rattle.meaning.specs.Stands.{stands, byRole}
-use Rattle.question.specs.Asked.{Asked}
+use Rattle.question.specs.MayAsk.{MayAsk}
 use Rattle.meaning.proofs.Choices.{same-on-table}
 use Rattle.preference.specs.Selection.{Selection}
 use Rattle.preference.specs.Named.{named}
@@ -52,7 +52,7 @@ module _ (t : List ℕ) (f : Frame) (order : List ℕ) (X : Selection) (lent : L
     long = rw e (length-marked (named order X) (set nobody 0 true))
 
     -- the question may be asked of it
-    pub may-ask : Asked t f marks
+    pub may-ask : MayAsk t f marks
     may-ask = record { kept = lent .kept; each = omega (arith, long, lent .kept .few-requests); host = reads 0 ∙ or-true (among 0 (named order X)) }
 
     -- and it is the question of the order

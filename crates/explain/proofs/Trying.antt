@@ -14,7 +14,7 @@ use Rattle.preference.proofs.Selections.{length-all, length-none, all-then-all}
 use Rattle.preference.proofs.Preferred.{one-conflict-asks-each, one-relax-asks-each}
 use Rattle.preference.proofs.Turns.{one-conflict-done, one-conflict-turn, one-relax-done, one-relax-turn}
 use Rattle.explain.specs.Flags.{filled}
-use Rattle.explain.specs.Parts.{Tells}
+use Rattle.explain.specs.Parts.{Worked}
 use Rattle.explain.proofs.Filling.{fill-all}
 
 -- the conflict: the first `left` requests are still to be tried, and S is what was decided of those after them
@@ -60,7 +60,7 @@ module _ (ok : Question) where
         }
 
   -- none is left to try
-  pub removing-done : (n : ℕ) (X : Selection) (asked left : ℕ) → Removing ok n X asked left → left ≤ 0 → Tells (oneConflict ok n []) X asked
+  pub removing-done : (n : ℕ) (X : Selection) (asked left : ℕ) → Removing ok n X asked left → left ≤ 0 → Worked (oneConflict ok n []) X asked
   unfolding all
   removing-done n X asked left r h =
       let z : left ≡ 0 = omega arith in
@@ -124,7 +124,7 @@ module _ (ok : Question) where
         }
 
   -- none is left to try
-  pub adding-done : (n : ℕ) (X : Selection) (asked place : ℕ) → Adding ok n X asked place → n ≤ place → Tells (oneRelax ok [] n) X asked
+  pub adding-done : (n : ℕ) (X : Selection) (asked place : ℕ) → Adding ok n X asked place → n ≤ place → Worked (oneRelax ok [] n) X asked
   unfolding none
   adding-done n X asked place r h =
       let z : n - place ≡ 0 = omega arith in

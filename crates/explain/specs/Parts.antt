@@ -60,7 +60,7 @@ WholeTried ok from count asking entry exit told =
     Tried (ok (P ++ (all count ++ none after))) asking (P ++ (all count ++ none after)) (P ++ (none count ++ none after)) exit told
 
 -- what a method that has worked all the requests tells: the set in the flags, and the number of questions, which is at most two a request
-pub record Tells (p : Part) (exit : Selection) (asked : ℕ) : Type 0 where
+pub record Worked (p : Part) (exit : Selection) (asked : ℕ) : Type 0 where
   pub set : exit ≡ p .set
   pub asked-is : asked ≡ p .asked
   pub few : asked ≤ 2 * length exit

@@ -4,7 +4,7 @@ ghost use Prim.Native.Nat.{_<_};
 ghost use lib.ListN.{length};
 ghost use Rattle.preference.specs.Selection.{none};
 ghost use Rattle.explain.specs.Asking.{Lent, questionOf};
-ghost use Rattle.explain.specs.Parts.{Tells};
+ghost use Rattle.explain.specs.Parts.{Worked};
 ghost use Rattle.explain.specs.Methods.{wholeBy, workedBy, answerBy, Begins, Answers};
 use crate::asking::ask;
 use crate::flags::fill;
@@ -89,7 +89,7 @@ fn work(
     places: &mut [u16; MOST_ROWS],
 ) -> usize
     requires { ⌜ Lent (now table) frame (now order) (now flags) × (now flags ≡ none (length (now flags))) × (0 < length (now flags)) ⌝ }
-    ensures { λ r. ⌜ Tells (workedBy method (questionOf (now (table .entry)) frame (now (order .entry))) (length (now (flags .entry)))) (now (flags .exit)) r ⌝ }
+    ensures { λ r. ⌜ Worked (workedBy method (questionOf (now (table .entry)) frame (now (order .entry))) (length (now (flags .entry)))) (now (flags .exit)) r ⌝ }
 {
     let count = flags.len();
     match method {

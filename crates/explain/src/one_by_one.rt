@@ -3,7 +3,7 @@ ghost use mathlib.Core.List.{[]};
 ghost use lib.ListN.{length};
 ghost use Rattle.preference.specs.OneByOne.{oneConflict, oneRelax};
 ghost use Rattle.explain.specs.Asking.{Lent, questionOf};
-ghost use Rattle.explain.specs.Parts.{Tells};
+ghost use Rattle.explain.specs.Parts.{Worked};
 use crate::asking::ask;
 use crate::flags::fill;
 use table::limits::MOST_REQUESTS;
@@ -21,7 +21,7 @@ pub fn remove_one_by_one(
     places: &mut [u16; MOST_ROWS],
 ) -> usize
     requires { ⌜ Lent (now table) frame (now order) (now flags) ⌝ }
-    ensures { λ r. ⌜ Tells (oneConflict (questionOf (now (table .entry)) frame (now (order .entry))) (length (now (flags .entry))) []) (now (flags .exit)) r ⌝ }
+    ensures { λ r. ⌜ Worked (oneConflict (questionOf (now (table .entry)) frame (now (order .entry))) (length (now (flags .entry))) []) (now (flags .exit)) r ⌝ }
 {
     let count = flags.len();
     fill(flags, 0, count, true);
@@ -48,7 +48,7 @@ pub fn add_one_by_one(
     places: &mut [u16; MOST_ROWS],
 ) -> usize
     requires { ⌜ Lent (now table) frame (now order) (now flags) ⌝ }
-    ensures { λ r. ⌜ Tells (oneRelax (questionOf (now (table .entry)) frame (now (order .entry))) [] (length (now (flags .entry)))) (now (flags .exit)) r ⌝ }
+    ensures { λ r. ⌜ Worked (oneRelax (questionOf (now (table .entry)) frame (now (order .entry))) [] (length (now (flags .entry)))) (now (flags .exit)) r ⌝ }
 {
     let count = flags.len();
     fill(flags, 0, count, false);

@@ -24,7 +24,7 @@ use Rattle.hainscope.specs.Reports.{kindBy, roomFor}
 use lib.ListN.{take}
 use Rattle.explain.specs.declared.answers.Method.the-variants.{ConflictByHalving}
 use Rattle.hainscope.specs.Selecting.{bits, above, namesAbove, canStand}
-use Rattle.hainscope.specs.Sheet.{CallsHold, frameH, lent, start}
+use Rattle.hainscope.specs.Sheet.{CallsHold, frameH, lentBuffer, lentStart}
 use Rattle.table.specs.Sheet.{tableH}
 use Rattle.hainscope.proofs.Outcomes.{can-stand-answered, can-stand-too-much, report-no-room}
 
@@ -35,5 +35,5 @@ calls-hold =
       stand = can-stand-answered tableH 11 frameH refl refl;
       fall = can-stand-answered tableH 14 frameH refl refl;
       above-N = can-stand-too-much tableH 16 frameH refl refl;
-      short = report-no-room ConflictByHalving tableH (take 21 lent) start frameH refl refl;
+      short = report-no-room ConflictByHalving tableH (take 21 lentBuffer) lentStart frameH refl refl;
     }

@@ -10,7 +10,7 @@
 --   Bits               the bits of a lent selection; PublicQuestion, every choice of requests can be lent and asked in public
 --   OrderCovers        the order names every request; EverySelection, WholeSelection, every lent selection is among the methods' own
 --   Outcomes           one law for each way out of a public call
--- For the code: Told, Spreading, Writing, Keeping.
+-- For the code: TableCalls, Spreading, Writing, Keeping.
 pub mod AnswersOfTheSheet
 pub mod CallsOfTheSheet
 pub mod Monotone
@@ -24,7 +24,7 @@ pub mod EverySelection
 pub mod WholeSelection
 pub mod DemandsHold
 pub mod BothMethods
-pub mod Told
+pub mod TableCalls
 pub mod Spreading
 pub mod Writing
 pub mod Keeping

@@ -6,7 +6,7 @@ use mathlib.Core.List.{List}
 use Rattle.table.specs.declared.record.Frame.{Frame}
 use Rattle.table.specs.declared.reading.Reading.{Reading}
 use Rattle.table.specs.declared.reading.Reading.the-variants.{Accepted, Refused}
-use Rattle.table.specs.Reading.{reading, numberOf, placeOf}
+use Rattle.table.specs.Reading.{reading, numberOfReading, placeOfReading}
 use Rattle.table.specs.Body.{stretchOf, numberOfStretch, placeOfStretch, sizeOfStretch}
 use Rattle.table.specs.Kept.{orderOf}
 use Rattle.preference.specs.Answer.{Answer}
@@ -136,7 +136,7 @@ some-report method t buffer start = by (reading t) refl
 pub every-call-is-answered : EveryCallIsAnswered
 every-call-is-answered =
     record {
-      read = λ t. (numberOf (reading t), placeOf (reading t), record { number-is = refl; place-is = refl });
+      read = λ t. (numberOfReading (reading t), placeOfReading (reading t), record { number-is = refl; place-is = refl });
       body =
           λ t wanted. (
             numberOfStretch (stretchOf t wanted),

@@ -13,10 +13,10 @@ use Rattle.table.specs.declared.record.Frame.{Frame}
 use Rattle.table.specs.Limits.{mostRequests}
 use Rattle.table.specs.Kept.{Kept, rowsOf}
 use Rattle.meaning.specs.Stands.{stands, byRole}
-use Rattle.question.specs.Asked.{Asked}
-use Rattle.hainscope.specs.declared.selecting.Asked.the-variants.{TooMuch, Told}
+use Rattle.question.specs.MayAsk.{MayAsk}
+use Rattle.hainscope.specs.declared.selecting.Verdict.the-variants.{NamesTooMuch, Answered}
 use Rattle.hainscope.specs.Selecting.{bits, above, namesAbove, canStand}
-use Rattle.hainscope.specs.Written.{Spread, askedOf}
+use Rattle.hainscope.specs.Written.{Spread, verdictOf}
 use Rattle.hainscope.proofs.Bits.{length-bits}
 
 -- one bit more is spread
@@ -68,18 +68,18 @@ module _ (t : List ℕ) (f : Frame) (selection : ℕ) (X Y : List Bool) (kept : 
   rest-of = spread .rest-is ∙ ap (λ (n : ℕ). above n selection) count
 
   -- the selection names a request above N
-  pub names-too-much : (rest ≡ 0 → ⊥) → TooMuch ≡ askedOf t f selection
-  unfolding askedOf namesAbove
+  pub names-too-much : (rest ≡ 0 → ⊥) → NamesTooMuch ≡ verdictOf t f selection
+  unfolding verdictOf namesAbove
   names-too-much h = rw (← rest-of, ne-eqb rest 0 h)
 
   -- the question may be asked
-  pub may-ask : Asked t f Y
+  pub may-ask : MayAsk t f Y
   may-ask = record { kept = kept; each = rw flags-are (omega (arith, length-bits (f .requests) selection)); host = rw flags-are }
 
   -- and its answer is the selection's
-  pub told-is : rest ≡ 0 → (answer : Bool) → answer ≡ stands (rowsOf t f) (f .variables) (byRole Y) → Told answer ≡ askedOf t f selection
-  unfolding askedOf namesAbove canStand
-  told-is z answer e = rw (← rest-of, eq-eqb rest 0 z) (ap Told (rw flags-are at e))
+  pub told-is : rest ≡ 0 → (answer : Bool) → answer ≡ stands (rowsOf t f) (f .variables) (byRole Y) → Answered answer ≡ verdictOf t f selection
+  unfolding verdictOf namesAbove canStand
+  told-is z answer e = rw (← rest-of, eq-eqb rest 0 z) (ap Answered (rw flags-are at e))
 
 -- the list that it is spread over has an entry for the host and for each request
 pub entries-length : (f : Frame) → f .requests ≤ mostRequests → length (take (f .requests + 1) (replicate (mostRequests + 1) false)) ≡ f .requests + 1

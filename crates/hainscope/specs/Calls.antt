@@ -9,7 +9,7 @@ use lib.ListN.{length}
 use Rattle.table.specs.declared.record.Frame.{Frame}
 use Rattle.table.specs.declared.refusals.Refusal.{Refusal}
 use Rattle.table.specs.declared.reading.Reading.the-variants.{Accepted, Refused}
-use Rattle.table.specs.Reading.{reading, numberOf, placeOf}
+use Rattle.table.specs.Reading.{reading, numberOfReading, placeOfReading}
 use Rattle.table.specs.Body.{stretchOf, numberOfStretch, placeOfStretch, sizeOfStretch}
 use Rattle.preference.specs.Selection.{all, none}
 use Rattle.preference.specs.Question.{Question}
@@ -31,8 +31,8 @@ noRoom = 12
 
 -- `hainscope_read`: 0 and place 0 for an accepted table, else the number and place of its refusal
 pub record ReadCall (t : List ℕ) (number place : ℕ) : Type 0 where
-  pub number-is : number ≡ numberOf (reading t)
-  pub place-is : place ≡ placeOf (reading t)
+  pub number-is : number ≡ numberOfReading (reading t)
+  pub place-is : place ≡ placeOfReading (reading t)
 
 -- `hainscope_body`: 0, the place of the body's first byte and its length; or the number and place of the refusal, and length 0
 pub record BodyCall (t : List ℕ) (wanted number size place : ℕ) : Type 0 where

@@ -141,19 +141,19 @@ pub record SheetHolds : Type 0 where
   pub damaged : answersOf damagedH ≡ refusal 9 86
 
 -- a lent buffer of 24 bytes, each another number, and a start in it
-abbrev pub lent : List ℕ
-lent =
+abbrev pub lentBuffer : List ℕ
+lentBuffer =
     201 ∷ 202 ∷ 203 ∷ 204 ∷ 205 ∷ 206 ∷ 207 ∷ 208 ∷ 209 ∷ 210 ∷ 211 ∷ 212 ∷ 213 ∷ 214 ∷ 215 ∷ 216 ∷ 217 ∷ 218 ∷ 219 ∷ 220 ∷ 221 ∷ 222 ∷ 223 ∷ 224 ∷ []
 
-abbrev pub start : ℕ
-start = 2
+abbrev pub lentStart : ℕ
+lentStart = 2
 
 -- the table is accepted with this frame, the buffer has room, and the report of a method leaves this buffer and ends at this place
 pub record ReportIs (method : Method) (t : List ℕ) (f : Frame) (after : List ℕ) (end : ℕ) : Type 0 where
   pub accepted : reading t ≡ Accepted f
-  pub room : roomFor (f .requests) lent start ≡ true
-  pub bytes : bufferAfter method t f lent start (answerIn t f method) ≡ after
-  pub ends : placeAfter t f start (answerIn t f method) ≡ end
+  pub room : roomFor (f .requests) lentBuffer lentStart ≡ true
+  pub bytes : bufferAfter method t f lentBuffer lentStart (answerIn t f method) ≡ after
+  pub ends : placeAfter t f lentStart (answerIn t f method) ≡ end
 
 -- V 4, N 4, five rows, ORDER at 74
 abbrev pub frameH : Frame
@@ -183,8 +183,8 @@ pub record ReportsHold : Type 0 where
       ++ (8 ∷ 0 ∷ 16 ∷ 0 ∷ 2 ∷ 0 ∷ 2 ∷ 0 ∷ 0 ∷ 0 ∷ 0 ∷ 0 ∷ [])
       ++ (215 ∷ 216 ∷ 217 ∷ 218 ∷ 219 ∷ 220 ∷ 221 ∷ 222 ∷ 223 ∷ 224 ∷ []))
       14
-  pub room-H : roomFor (frameH .requests) (take 22 lent) start ≡ true
-  pub no-room-H : roomFor (frameH .requests) (take 21 lent) start ≡ false
+  pub room-H : roomFor (frameH .requests) (take 22 lentBuffer) lentStart ≡ true
+  pub no-room-H : roomFor (frameH .requests) (take 21 lentBuffer) lentStart ≡ false
 
 -- what the public calls say of H, in document 01's numbers: requests 1, 2 and 4 can stand; 2, 3 and 4 cannot; request 5 is above N, refusal 11;
 -- and a buffer that is a byte too short, refusal 12
@@ -192,4 +192,4 @@ pub record CallsHold : Type 0 where
   pub stand : CanStandCall tableH 11 0 1 0
   pub fall : CanStandCall tableH 14 0 0 0
   pub above-N : CanStandCall tableH 16 11 0 0
-  pub short : ReportCall ConflictByHalving tableH (take 21 lent) start 12 0 (take 21 lent)
+  pub short : ReportCall ConflictByHalving tableH (take 21 lentBuffer) lentStart 12 0 (take 21 lentBuffer)

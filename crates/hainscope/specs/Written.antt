@@ -10,8 +10,8 @@ use Rattle.preference.specs.Answer.{Answer}
 use Rattle.explain.specs.declared.answers.Method.{Method}
 use Rattle.explain.specs.Methods.{answerBy}
 use Rattle.report.specs.Written.{Written}
-use Rattle.hainscope.specs.declared.selecting.Asked.{Asked}
-use Rattle.hainscope.specs.declared.selecting.Asked.the-variants.{TooMuch, Told}
+use Rattle.hainscope.specs.declared.selecting.Verdict.{Verdict}
+use Rattle.hainscope.specs.declared.selecting.Verdict.the-variants.{NamesTooMuch, Answered}
 use Rattle.hainscope.specs.Selecting.{bits, above, namesAbove, canStand}
 use Rattle.hainscope.specs.Reports.{tableQuestion, kindBy, roomFor, placeAfter, bufferAfter}
 use Rattle.hainscope.specs.Calls.{Left, namesTooMuch, noRoom}
@@ -22,17 +22,17 @@ pub record Spread (before after : List Bool) (selection rest : ℕ) : Type 0 whe
   pub rest-is : rest ≡ above (length before - 1) selection
 
 -- what asking about a selection tells
-unfoldable pub askedOf : List ℕ → Frame → ℕ → Asked
-askedOf t f selection = cond (namesAbove (f .requests) selection) TooMuch (Told (canStand t f selection))
+unfoldable pub verdictOf : List ℕ → Frame → ℕ → Verdict
+verdictOf t f selection = cond (namesAbove (f .requests) selection) NamesTooMuch (Answered (canStand t f selection))
 
 -- the number that the call returns then, and 1 or 0
-unfoldable pub numberOfAsked : Asked → ℕ
-numberOfAsked TooMuch = namesTooMuch
-numberOfAsked (Told answer) = 0
+unfoldable pub numberOfVerdict : Verdict → ℕ
+numberOfVerdict NamesTooMuch = namesTooMuch
+numberOfVerdict (Answered answer) = 0
 
-unfoldable pub standsOfAsked : Asked → ℕ
-standsOfAsked TooMuch = 0
-standsOfAsked (Told answer) = cond answer 1 0
+unfoldable pub standsOfVerdict : Verdict → ℕ
+standsOfVerdict NamesTooMuch = 0
+standsOfVerdict (Answered answer) = cond answer 1 0
 
 -- the answer of a method over an accepted table
 abbrev pub tableAnswer : Method → List ℕ → Frame → Answer

@@ -4,9 +4,9 @@ ghost use mathlib.Core.Bool.{cond};
 ghost use Rattle.table.specs.Kept.{Kept};
 ghost use Rattle.explain.specs.declared.answers.Method.the-variants.{ConflictByHalving, ConflictOneByOne, RelaxationByHalving, RelaxationOneByOne};
 ghost use Rattle.hainscope.specs.Calls.{ReadCall, BodyCall, CanStandCall, ReportCall};
-ghost use Rattle.hainscope.specs.Written.{askedOf, numberOfAsked, standsOfAsked};
+ghost use Rattle.hainscope.specs.Written.{verdictOf, numberOfVerdict, standsOfVerdict};
 use crate::reporting::make_report;
-use crate::selecting::Asked;
+use crate::selecting::Verdict;
 use crate::selecting::ask_selection;
 use explain::answers::Method;
 use table::body::Stretch;
@@ -71,15 +71,15 @@ fn one_for(yes: bool) -> u32
 // Whether the selection of an accepted table's requests can stand.
 fn can_stand_accepted(table: &[u8], frame: Frame, selection: u64, stands: &mut u32) -> u32
     requires { ⌜ Kept (now table) frame ⌝ }
-    ensures { λ r. ⌜ (r ≡ numberOfAsked (askedOf (now (table .entry)) frame selection)) × (now (stands .exit) ≡ standsOfAsked (askedOf (now (table .entry)) frame selection)) ⌝ }
+    ensures { λ r. ⌜ (r ≡ numberOfVerdict (verdictOf (now (table .entry)) frame selection)) × (now (stands .exit) ≡ standsOfVerdict (verdictOf (now (table .entry)) frame selection)) ⌝ }
 {
     let found = ask_selection(table, frame, selection);
     match found {
-        Asked::TooMuch => {
+        Verdict::NamesTooMuch => {
             *stands = 0;
             NAMES_TOO_MUCH
         }
-        Asked::Told(yes) => {
+        Verdict::Answered(yes) => {
             *stands = one_for(yes);
             0
         }

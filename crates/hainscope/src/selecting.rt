@@ -3,16 +3,16 @@ ghost use mathlib.Core.Path.{_≡_};
 ghost use Prim.Native.Nat.{_+_, _<_};
 ghost use lib.ListN.{length};
 ghost use Rattle.table.specs.Kept.{Kept};
-ghost use Rattle.hainscope.specs.Written.{Spread, askedOf};
+ghost use Rattle.hainscope.specs.Written.{Spread, verdictOf};
 use question::search::can_stand;
 use table::limits::MOST_REQUESTS;
 use table::limits::MOST_ROWS;
 use table::record::Frame;
 
 // What asking about a selection tells: it names a request above N, or whether it can stand.
-pub enum Asked {
-    TooMuch,
-    Told(bool),
+pub enum Verdict {
+    NamesTooMuch,
+    Answered(bool),
 }
 
 // Spreads the bits of a selection over the entries from 1 on. Returns what is left of the number above them.
@@ -39,22 +39,22 @@ fn ask_spread(
     selection: u64,
     chosen: &mut [bool],
     places: &mut [u16; MOST_ROWS],
-) -> Asked
+) -> Verdict
     requires { ⌜ Kept (now table) frame × (length (now chosen) ≡ frame .requests + 1) ⌝ }
-    ensures { λ r. ⌜ r ≡ askedOf (now (table .entry)) frame selection ⌝ }
+    ensures { λ r. ⌜ r ≡ verdictOf (now (table .entry)) frame selection ⌝ }
 {
     chosen[0] = true;
     let rest = spread(selection, chosen);
     if rest != 0 {
-        return Asked::TooMuch;
+        return Verdict::NamesTooMuch;
     }
-    Asked::Told(can_stand(table, frame, chosen, places))
+    Verdict::Answered(can_stand(table, frame, chosen, places))
 }
 
 // Whether a selection of an accepted table's requests can stand, or that it names a request above N.
-pub fn ask_selection(table: &[u8], frame: Frame, selection: u64) -> Asked
+pub fn ask_selection(table: &[u8], frame: Frame, selection: u64) -> Verdict
     requires { ⌜ Kept (now table) frame ⌝ }
-    ensures { λ r. ⌜ r ≡ askedOf (now (table .entry)) frame selection ⌝ }
+    ensures { λ r. ⌜ r ≡ verdictOf (now (table .entry)) frame selection ⌝ }
 {
     let entries = frame.requests + 1;
     let mut chosen = [false; MOST_REQUESTS + 1];

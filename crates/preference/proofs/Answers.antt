@@ -6,11 +6,11 @@ use Rattle.preference.specs.OneByOne.{oneConflict, oneRelax}
 use Rattle.preference.specs.Cut.{size, treeOf}
 use Rattle.preference.specs.Halving.{halveConflict, enterConflict, halveRelax, enterRelax}
 use Rattle.preference.specs.Answer.{answered}
-use Rattle.preference.specs.Sheet.{SheetHolds, OrdersHold, wanted, withinBudget}
+use Rattle.preference.specs.Cases.{CasesHold, OrdersHold, wanted, withinBudget}
 
-pub sheet-holds : SheetHolds
+pub cases-hold : CasesHold
 unfolding all none entered oneConflict oneRelax size treeOf halveConflict enterConflict halveRelax enterRelax answered wanted withinBudget
-sheet-holds = record { conflicts = refl; relaxations = refl; conflict-sets = refl; relaxation-sets = refl }
+cases-hold = record { conflicts = refl; relaxations = refl; conflict-sets = refl; relaxation-sets = refl }
 
 pub orders-hold : OrdersHold
 orders-hold =

@@ -9,33 +9,33 @@ use Rattle.preference.specs.Named.{named}
 use Rattle.preference.specs.Question.{Question}
 use Rattle.preference.specs.Cut.{Tree, size, treeOf, middle}
 use Rattle.preference.specs.Answer.{conflictOneByOne, relaxationOneByOne, conflictOver, relaxationOver, conflictByHalving, relaxationByHalving}
-use Rattle.preference.specs.Sheet.{rowH, wanted, withinBudget}
-use Rattle.preference.specs.Asking.{foundBy, questionsOf, _>>=_, answerBy, askConflictOneByOne, askRelaxationOneByOne, askConflictOver}
-use Rattle.preference.specs.Asking.{askRelaxationOver, askConflictByHalving, askRelaxationByHalving, start}
+use Rattle.preference.specs.Cases.{caseH, wanted, withinBudget}
+use Rattle.preference.specs.Asking.{foundBy, questionsOf, _>>=_, answerOf, askConflictOneByOne, askRelaxationOneByOne, askConflictOver}
+use Rattle.preference.specs.Asking.{askRelaxationOver, askConflictByHalving, askRelaxationByHalving, sharedStart}
 use Rattle.preference.specs.Asking.{workConflict, askTheGround, workRelaxation, askThePart}
-use Rattle.preference.proofs.Asked.{removing-carries-out-one-by-one, adding-carries-out-one-by-one}
-use Rattle.preference.proofs.Asked.{working-carries-out-a-conflict, working-carries-out-a-relaxation, the-start-is-asked}
+use Rattle.preference.proofs.CarriedOut.{removing-carries-out-one-by-one, adding-carries-out-one-by-one}
+use Rattle.preference.proofs.CarriedOut.{working-carries-out-a-conflict, working-carries-out-a-relaxation, the-start-is-asked}
 
 module _ (ok : Question) (n : ℕ) where
   -- status, set and count, one by one
-  pub the-one-by-one-conflict-is-asked : answerBy ok (askConflictOneByOne n) ≡ conflictOneByOne ok n
+  pub the-one-by-one-conflict-is-asked : answerOf ok (askConflictOneByOne n) ≡ conflictOneByOne ok n
   the-one-by-one-conflict-is-asked = the-start-is-asked ok n (none n) _ _ (removing-carries-out-one-by-one ok n [])
 
-  pub the-one-by-one-relaxation-is-asked : answerBy ok (askRelaxationOneByOne n) ≡ relaxationOneByOne ok n
+  pub the-one-by-one-relaxation-is-asked : answerOf ok (askRelaxationOneByOne n) ≡ relaxationOneByOne ok n
   the-one-by-one-relaxation-is-asked = the-start-is-asked ok n (all n) _ _ (adding-carries-out-one-by-one ok [] n)
 
   -- by halving, over every way of cutting,
-  pub the-conflict-over-any-tree-is-asked : (t : Tree) → answerBy ok (askConflictOver t n) ≡ conflictOver t ok n
+  pub the-conflict-over-any-tree-is-asked : (t : Tree) → answerOf ok (askConflictOver t n) ≡ conflictOver t ok n
   the-conflict-over-any-tree-is-asked t = the-start-is-asked ok n (none n) _ _ (working-carries-out-a-conflict ok t)
 
-  pub the-relaxation-over-any-tree-is-asked : (t : Tree) → answerBy ok (askRelaxationOver t n) ≡ relaxationOver t ok n
+  pub the-relaxation-over-any-tree-is-asked : (t : Tree) → answerOf ok (askRelaxationOver t n) ≡ relaxationOver t ok n
   the-relaxation-over-any-tree-is-asked t = the-start-is-asked ok n (all n) _ _ (working-carries-out-a-relaxation ok t)
 
   -- and by the middle
-  pub the-halving-conflict-is-asked : answerBy ok (askConflictByHalving n) ≡ conflictByHalving ok n
+  pub the-halving-conflict-is-asked : answerOf ok (askConflictByHalving n) ≡ conflictByHalving ok n
   the-halving-conflict-is-asked = the-conflict-over-any-tree-is-asked (middle n)
 
-  pub the-halving-relaxation-is-asked : answerBy ok (askRelaxationByHalving n) ≡ relaxationByHalving ok n
+  pub the-halving-relaxation-is-asked : answerOf ok (askRelaxationByHalving n) ≡ relaxationByHalving ok n
   the-halving-relaxation-is-asked = the-relaxation-over-any-tree-is-asked (middle n)
 
   -- so each count is the number of questions
@@ -52,12 +52,12 @@ module _ (ok : Question) (n : ℕ) where
   the-halving-relaxation-count-is-the-number-of-questions = sym (ap (λ a. a .asked) the-halving-relaxation-is-asked)
 
 -- Row H, whose order is 2 4 1 3: the 8 questions of the conflict and the 4 of the relaxation, each by the numbers of its requests.
-pub the-conflict-of-row-H-asks-8-questions : map (named (2 ∷ 4 ∷ 1 ∷ 3 ∷ [])) (questionsOf (rowH .question) (askConflictByHalving 4))
+pub the-conflict-of-row-H-asks-8-questions : map (named (2 ∷ 4 ∷ 1 ∷ 3 ∷ [])) (questionsOf (caseH .question) (askConflictByHalving 4))
     ≡ (2 ∷ 4 ∷ 1 ∷ 3 ∷ []) ∷ [] ∷ (2 ∷ 4 ∷ []) ∷ (2 ∷ 4 ∷ 1 ∷ []) ∷ (2 ∷ 4 ∷ 3 ∷ []) ∷ (3 ∷ []) ∷ (2 ∷ 3 ∷ []) ∷ (4 ∷ 3 ∷ []) ∷ []
-unfolding all none kept size treeOf foundBy questionsOf _>>=_ start workConflict askTheGround wanted withinBudget named
+unfolding all none kept size treeOf foundBy questionsOf _>>=_ sharedStart workConflict askTheGround wanted withinBudget named
 the-conflict-of-row-H-asks-8-questions = refl
 
-pub the-relaxation-of-row-H-asks-4-questions : map (named (2 ∷ 4 ∷ 1 ∷ 3 ∷ [])) (questionsOf (rowH .question) (askRelaxationByHalving 4))
+pub the-relaxation-of-row-H-asks-4-questions : map (named (2 ∷ 4 ∷ 1 ∷ 3 ∷ [])) (questionsOf (caseH .question) (askRelaxationByHalving 4))
     ≡ (2 ∷ 4 ∷ 1 ∷ 3 ∷ []) ∷ [] ∷ (2 ∷ 4 ∷ []) ∷ (2 ∷ 4 ∷ 1 ∷ []) ∷ []
-unfolding all none dropped size treeOf foundBy questionsOf _>>=_ start workRelaxation askThePart wanted withinBudget named
+unfolding all none dropped size treeOf foundBy questionsOf _>>=_ sharedStart workRelaxation askThePart wanted withinBudget named
 the-relaxation-of-row-H-asks-4-questions = refl

@@ -20,7 +20,7 @@
 --   Questions     the methods ask about selections of the n requests and nothing else
 --   EveryCut      halving finds the one-by-one set, for a question that is monotone on the n requests
 --   Bound         how many questions a part asks
---   Asked         each part and the shared start, carried out by a program that can do nothing but ask
+--   CarriedOut    each part and the shared start, carried out by a program that can do nothing but ask
 pub mod Selections
 pub mod Orders
 pub mod Trees
@@ -39,5 +39,5 @@ pub mod Relaxations
 pub mod Link
 pub mod Turns
 pub mod Few
-pub mod Asked
+pub mod CarriedOut
 pub mod Counts

@@ -12,7 +12,7 @@
 --   Answer       both methods with their shared start: status, set and count
 --   Asking       both methods as programs that can do nothing but ask
 --   Depth        d, the list of 65 entries, for the bound 2 + 2kd
---   Sheet        rows of the sample sheet and the paper's Example 2, computed
+--   Cases        rows of the sample sheet and the paper's Example 2, computed
 -- What is proved of these definitions stands in proofs/, from proofs/Lib.antt on.
 pub mod Selection
 pub mod Named
@@ -25,4 +25,4 @@ pub mod Halving
 pub mod Answer
 pub mod Asking
 pub mod Depth
-pub mod Sheet
+pub mod Cases

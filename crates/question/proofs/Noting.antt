@@ -16,7 +16,7 @@ use Rattle.table.specs.Rows.{rows, rowAt, after}
 use Rattle.table.specs.Kept.{RowKept, RowsKept, firstRow}
 use Rattle.meaning.specs.Meaning.{Setting, valueOf, meets, roleOf, counts, respects, meetsAll}
 use Rattle.meaning.specs.Stands.{byRole}
-use Rattle.question.specs.Asked.{Asked}
+use Rattle.question.specs.MayAsk.{MayAsk}
 use Rattle.question.specs.Counting.{countingPlaces, Noted}
 use Rattle.meaning.specs.WholeRows.{RowsAsked}
 use Rattle.meaning.proofs.OneRow.{row-role, role-at}
@@ -66,7 +66,7 @@ module _ (chosen : ℕ → Bool) (v n : ℕ) (t : List ℕ) where
 -- so that the search may read them
 pub noted-asked :
     (t : List ℕ) (f : Frame) (chosen : List Bool) (places : List ℕ) (noted variables : ℕ) →
-    Asked t f chosen →
+    MayAsk t f chosen →
     Noted (byRole chosen) (f .rows) t places noted →
     variables ≡ f .variables →
     RowsAsked t places noted variables
@@ -105,7 +105,7 @@ place-written true places noted at more h = rw (add-one, take-suc-set places not
 place-written false places noted at more h = ap (λ (l : List ℕ). l ++ more) (ap (λ (n : ℕ). take n (set places noted at)) (add-zero noted) ∙ take-set-le noted places noted at (omega arith))
 
 -- one turn of the walk
-module _ (t : List ℕ) (f : Frame) (chosen : List Bool) (asked : Asked t f chosen) (left at : ℕ) (more : 0 < left) (kept : RowsKept (f .variables) (f .requests) t left at (f .order)) where
+module _ (t : List ℕ) (f : Frame) (chosen : List Bool) (asked : MayAsk t f chosen) (left at : ℕ) (more : 0 < left) (kept : RowsKept (f .variables) (f .requests) t left at (f .order)) where
   -- the row at hand is whole and in range
   pub row-here : RowKept (f .variables) (f .requests) t at
   row-here = rows-kept-turn (f .variables) (f .requests) t left at (f .order) more kept .0

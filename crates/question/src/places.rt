@@ -5,7 +5,7 @@ ghost use Prim.Native.Nat.{_≤_};
 ghost use lib.ListN.{length};
 ghost use Rattle.meaning.specs.Meaning.{valueOf};
 ghost use Rattle.meaning.specs.Stands.{byRole};
-ghost use Rattle.question.specs.Asked.{Asked};
+ghost use Rattle.question.specs.MayAsk.{MayAsk};
 ghost use Rattle.question.specs.Counting.{Noted};
 use table::record::Frame;
 use table::words::number;
@@ -26,7 +26,7 @@ fn taken_up(counts: bool) -> usize
 // Notes the places of the rows that count, in the table's sequence, and tells how many they are. Every place
 // is written, and the next one over it where its row does not count: that leaves the compiled code no branch.
 pub fn note_places(table: &[u8], frame: Frame, chosen: &[bool], places: &mut [u16]) -> usize
-    requires { ⌜ Asked (now table) frame (now chosen) × (frame .rows ≤ length (now places)) ⌝ }
+    requires { ⌜ MayAsk (now table) frame (now chosen) × (frame .rows ≤ length (now places)) ⌝ }
     ensures { λ r. ⌜ Noted (byRole (now (chosen .entry))) (frame .rows) (now (table .entry)) (now (places .exit)) r ⌝ }
 {
     let mut at = FIRST_ROW;

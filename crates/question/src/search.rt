@@ -6,7 +6,7 @@ ghost use lib.ListN.{length};
 ghost use Rattle.table.specs.Kept.{rowsOf};
 ghost use Rattle.meaning.specs.Stands.{stands, byRole};
 ghost use Rattle.meaning.specs.WholeRows.{RowsAsked};
-ghost use Rattle.question.specs.Asked.{Asked};
+ghost use Rattle.question.specs.MayAsk.{MayAsk};
 ghost use Rattle.question.specs.Completing.{Completed, MeetsCounting, MeetsFirst};
 ghost use Rattle.question.specs.Trail.{TrailRoom};
 use crate::looking::Seen;
@@ -72,7 +72,7 @@ pub fn can_complete(
     values: &[u8],
     places: &mut [u16; MOST_ROWS],
 ) -> bool
-    requires { ⌜ Asked (now table) frame (now chosen) × (length (now values) ≡ frame .variables) ⌝ }
+    requires { ⌜ MayAsk (now table) frame (now chosen) × (length (now values) ≡ frame .variables) ⌝ }
     ensures { λ r. ⌜ Completed (MeetsCounting (now (table .entry)) frame (now (chosen .entry))) (now (values .entry)) r ⌝ }
 {
     let noted = note_places(table, frame, chosen, places);
@@ -95,7 +95,7 @@ pub fn can_complete(
 
 // Whether the selection can stand. The list of places is lent to work on.
 pub fn can_stand(table: &[u8], frame: Frame, chosen: &[bool], places: &mut [u16; MOST_ROWS]) -> bool
-    requires { ⌜ Asked (now table) frame (now chosen) ⌝ }
+    requires { ⌜ MayAsk (now table) frame (now chosen) ⌝ }
     ensures { λ r. ⌜ r ≡ stands (rowsOf (now (table .entry)) frame) (frame .variables) (byRole (now (chosen .entry))) ⌝ }
 {
     let entries = frame.variables;

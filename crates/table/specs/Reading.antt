@@ -78,11 +78,11 @@ unfoldable pub reading : List ℕ → Reading
 reading t = cond (ltb mostBytes (length t)) (refusedAt tooLong 0) (scan (length t) t 0 beginning)
 
 -- the number that a reading returns: 0 for an accepted table
-unfoldable pub numberOf : Reading → ℕ
-numberOf (Accepted f) = 0
-numberOf (Refused r) = r .number
+unfoldable pub numberOfReading : Reading → ℕ
+numberOfReading (Accepted f) = 0
+numberOfReading (Refused r) = r .number
 
 -- the place that a reading returns: 0 for an accepted table
-unfoldable pub placeOf : Reading → ℕ
-placeOf (Accepted f) = 0
-placeOf (Refused r) = r .place
+unfoldable pub placeOfReading : Reading → ℕ
+placeOfReading (Accepted f) = 0
+placeOfReading (Refused r) = r .place

@@ -1,6 +1,6 @@
 -- `hainscope::calls::can_stand_accepted` meets its contract.
 use mathlib.Core.Path.{sym, _∙_}
-use Rattle.hainscope.proofs.Told.{told-too-much, told-answer}
+use Rattle.hainscope.proofs.TableCalls.{told-too-much, told-answer}
 use borrow.Author.Needs.{needs}
 use Rattle.hainscope.proofs.calls.can_stand_accepted.Statement.{statement}
 use Rattle.hainscope.proofs.calls.can_stand_accepted.Tie as tie

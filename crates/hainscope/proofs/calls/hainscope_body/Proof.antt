@@ -1,6 +1,6 @@
 -- `hainscope::calls::hainscope_body` meets its contract.
 use mathlib.Core.Path.{sym, _∙_}
-use Rattle.hainscope.proofs.Told.{body-found, body-missing}
+use Rattle.hainscope.proofs.TableCalls.{body-found, body-missing}
 use borrow.Author.Needs.{needs}
 use Rattle.hainscope.proofs.calls.hainscope_body.Statement.{statement}
 use Rattle.hainscope.proofs.calls.hainscope_body.Tie as tie

@@ -1,7 +1,7 @@
 -- `hainscope::calls::hainscope_can_stand` meets its contract.
 use mathlib.Core.Path.{sym, _∙_}
 use Rattle.table.proofs.Accepted.{accepted-keeps}
-use Rattle.hainscope.proofs.Told.{question-answered}
+use Rattle.hainscope.proofs.TableCalls.{question-answered}
 use Rattle.hainscope.proofs.Outcomes.{can-stand-refused}
 use borrow.Author.Needs.{needs}
 use Rattle.hainscope.proofs.calls.hainscope_can_stand.Statement.{statement}

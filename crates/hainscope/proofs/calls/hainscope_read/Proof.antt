@@ -1,6 +1,6 @@
 -- `hainscope::calls::hainscope_read` meets its contract.
 use mathlib.Core.Path.{sym, _∙_}
-use Rattle.hainscope.proofs.Told.{read-accepted, read-refused}
+use Rattle.hainscope.proofs.TableCalls.{read-accepted, read-refused}
 use borrow.Author.Needs.{needs}
 use Rattle.hainscope.proofs.calls.hainscope_read.Statement.{statement}
 use Rattle.hainscope.proofs.calls.hainscope_read.Tie as tie

@@ -6,7 +6,7 @@ use lib.ListN.{length, take, length-set}
 use Rattle.table.specs.declared.record.Frame.{Frame}
 use Rattle.table.specs.Kept.{RowsKept, firstRow}
 use Rattle.meaning.specs.Stands.{byRole}
-use Rattle.question.specs.Asked.{Asked}
+use Rattle.question.specs.MayAsk.{MayAsk}
 use Rattle.question.specs.Counting.{countingPlaces}
 use Rattle.meaning.proofs.OneRow.{row-long}
 use Rattle.question.proofs.Noting.{rows-kept-turn, row-here, role-there, note-turn, all-noted}
@@ -15,7 +15,7 @@ use Rattle.question.proofs.places.note_places.Statement.{statement}
 use Rattle.question.proofs.places.note_places.Tie as tie
 
 abbrev Inv-loop : tie.InvT-loop
-Inv-loop table chosen places₀ at₀ left₀ noted₀ places at left noted = (f : Frame) × Asked table f chosen × RowsKept (f .variables) (f .requests) table left at (f .order) × (noted + left ≤ length places) × (length places ≡ length places₀) × (take noted places ++ countingPlaces (byRole chosen) left table at ≡ countingPlaces (byRole chosen) left₀ table firstRow)
+Inv-loop table chosen places₀ at₀ left₀ noted₀ places at left noted = (f : Frame) × MayAsk table f chosen × RowsKept (f .variables) (f .requests) table left at (f .order) × (noted + left ≤ length places) × (length places ≡ length places₀) × (take noted places ++ countingPlaces (byRole chosen) left table at ≡ countingPlaces (byRole chosen) left₀ table firstRow)
 
 abbrev μ-loop : tie.MeasureT-loop
 μ-loop table chosen places₀ at₀ left₀ noted₀ places at left noted = left

@@ -16,8 +16,8 @@ use Rattle.preference.specs.OneByOne.{oneConflict, oneRelax}
 use Rattle.preference.specs.Cut.{Tree, leaf, node, size}
 use Rattle.preference.specs.Halving.{halveConflict, halveRelax, enterConflict, enterRelax}
 use Rattle.preference.specs.Answer.{answered}
-use Rattle.preference.specs.Asking.{Asking, done, ask, foundBy, questionsOf, _>>=_, removeOneByOne, addOneByOne, notEmpty, isWhole}
-use Rattle.preference.specs.Asking.{askTheGround, workConflict, askThePart, workRelaxation, start, answerBy}
+use Rattle.preference.specs.Asking.{Asking, done, ask, foundBy, questionsOf, _>>=_, removeOneByOne, addOneByOne, notEmpty, keptWhole}
+use Rattle.preference.specs.Asking.{askTheGround, workConflict, askThePart, workRelaxation, sharedStart, answerOf}
 use Rattle.preference.proofs.Selections.{all-add, none-add, kept-and-dropped, dropped-append, dropped-all, length-all}
 
 -- every part has a request
@@ -154,8 +154,8 @@ module _ (ok : Question) where
       (ap (λ p. together p (halveRelax ok c2 (p .set) after (ltb 0 (p .found))))
       (working-a-relaxation c1 P (size c2 + after) true false (none (size c2) ++ back) refl (none-add (size c2) after ∙ ap (λ F. none (size c2) ++ F) f))
       ∙ ap (λ p. together (relaxPart P one) p)
-      (working-a-relaxation c2 (P ++ k1) after (ltb 0 (dropped k1)) (isWhole k1) back (some-or-none (dropped k1)) f)
-      ∙ relax-in-turn P one (λ K. workRelaxation c2 (isWhole K) (P ++ K) back)))
+      (working-a-relaxation c2 (P ++ k1) after (ltb 0 (dropped k1)) (keptWhole k1) back (some-or-none (dropped k1)) f)
+      ∙ relax-in-turn P one (λ K. workRelaxation c2 (keptWhole K) (P ++ K) back)))
 
   -- all the requests as one part
   pub working-carries-out-a-conflict : (t : Tree) → CarriesOut (workConflict t [] [] []) (halveConflict ok t 0 false [])
@@ -168,11 +168,11 @@ module _ (ok : Question) where
 
   -- the shared start
   pub the-start-is-asked : (n : ℕ) (whole : Selection) (work : Asking Selection) (p : Part) → CarriesOut work p
-      → answerBy ok (start n whole work) ≡ answered ok n whole p
-  unfolding foundBy questionsOf _>>=_ start answered
+      → answerOf ok (sharedStart n whole work) ≡ answered ok n whole p
+  unfolding foundBy questionsOf _>>=_ sharedStart answered
   the-start-is-asked n whole work p c = go (ok (all n)) (eqb n 0) (ok (none n)) refl refl refl
     where
-      go : (a z h : Bool) → ok (all n) ≡ a → eqb n 0 ≡ z → ok (none n) ≡ h → answerBy ok (start n whole work) ≡ answered ok n whole p
+      go : (a z h : Bool) → ok (all n) ≡ a → eqb n 0 ≡ z → ok (none n) ≡ h → answerOf ok (sharedStart n whole work) ≡ answered ok n whole p
       go true z h i j k = rw (i, foundBy, questionsOf)
       go false true h i j k = rw (i, j, foundBy, questionsOf)
       go false false false i j k = rw (i, j, k, foundBy, questionsOf)

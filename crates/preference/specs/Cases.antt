@@ -11,7 +11,7 @@ use Rattle.preference.specs.Preference.{LexBefore, AntilexBefore}
 use Rattle.preference.specs.Answer.{Answer, conflictOneByOne, relaxationOneByOne, conflictByHalving, relaxationByHalving}
 
 -- A question about a number of requests, and what halving makes of it: status, set and count.
-pub record Row : Type 0 where
+pub record Case : Type 0 where
   pub question : Question
   pub requests : ℕ
   pub conflict : Answer
@@ -37,24 +37,24 @@ abbrev pub answer : ℕ → Selection → ℕ → Answer
 answer status set asked = record { status = status; set = set; asked = asked }
 
 -- No requests, no rows.
-abbrev pub rowA : Row
-rowA = record { question = withinBudget [] 0; requests = 0; conflict = answer 0 [] 1; relaxation = answer 0 [] 1 }
+abbrev pub caseA : Case
+caseA = record { question = withinBudget [] 0; requests = 0; conflict = answer 0 [] 1; relaxation = answer 0 [] 1 }
 
 -- No requests, and a host that cannot stand.
-abbrev pub rowB : Row
-rowB = record { question = nothingStands; requests = 0; conflict = answer 2 [] 1; relaxation = answer 2 [] 1 }
+abbrev pub caseB : Case
+caseB = record { question = nothingStands; requests = 0; conflict = answer 2 [] 1; relaxation = answer 2 [] 1 }
 
 -- One request, and a host that cannot stand.
-abbrev pub rowC : Row
-rowC = record { question = nothingStands; requests = 1; conflict = answer 2 (false ∷ []) 2; relaxation = answer 2 (false ∷ []) 2 }
+abbrev pub caseC : Case
+caseC = record { question = nothingStands; requests = 1; conflict = answer 2 (false ∷ []) 2; relaxation = answer 2 (false ∷ []) 2 }
 
 -- One request, which cannot stand.
-abbrev pub rowD : Row
-rowD = record { question = withinBudget (1 ∷ []) 0; requests = 1; conflict = answer 1 (true ∷ []) 2; relaxation = answer 1 (false ∷ []) 2 }
+abbrev pub caseD : Case
+caseD = record { question = withinBudget (1 ∷ []) 0; requests = 1; conflict = answer 1 (true ∷ []) 2; relaxation = answer 1 (false ∷ []) 2 }
 
 -- E, and F, which has the same requests in the other order: x0 and !x0, of which one can stand.
-abbrev pub rowE : Row
-rowE =
+abbrev pub caseE : Case
+caseE =
     record {
       question = withinBudget (1 ∷ 1 ∷ []) 1;
       requests = 2;
@@ -63,8 +63,8 @@ rowE =
     }
 
 -- The host wants !x0 and both requests want x0.
-abbrev pub rowG : Row
-rowG =
+abbrev pub caseG : Case
+caseG =
     record {
       question = withinBudget (1 ∷ 1 ∷ []) 0;
       requests = 2;
@@ -73,8 +73,8 @@ rowG =
     }
 
 -- Four plug-ins want 1200, 900, 2500 and 700 rows of a bib map of 4000, and the order is 2 4 1 3.
-abbrev pub rowH : Row
-rowH =
+abbrev pub caseH : Case
+caseH =
     record {
       question = withinBudget (900 ∷ 700 ∷ 1200 ∷ 2500 ∷ []) 4000;
       requests = 4;
@@ -83,8 +83,8 @@ rowH =
     }
 
 -- H with bound 4100, which is what requests 2, 4 and 3 want: "I shows 4100 allowed".
-abbrev pub rowI : Row
-rowI =
+abbrev pub caseI : Case
+caseI =
     record {
       question = withinBudget (900 ∷ 700 ∷ 1200 ∷ 2500 ∷ []) 4100;
       requests = 4;
@@ -93,7 +93,7 @@ rowI =
     }
 
 -- Example 2 at n = 16: requests 9, 10 and 12 want n each and every other one wants 1, and the sum must stay below 3n.
-abbrev pub example2 : Row
+abbrev pub example2 : Case
 example2 =
     record {
       question = withinBudget (1 ∷ 1 ∷ 1 ∷ 1 ∷ 1 ∷ 1 ∷ 1 ∷ 1 ∷ 16 ∷ 16 ∷ 1 ∷ 16 ∷ 1 ∷ 1 ∷ 1 ∷ 1 ∷ []) 47;
@@ -102,16 +102,16 @@ example2 =
       relaxation = answer 1 (all 11 ++ (false ∷ all 4)) 7;
     }
 
--- The rows, from A to I, and the example.
-abbrev pub sheet : List Row
-sheet = rowA ∷ rowB ∷ rowC ∷ rowD ∷ rowE ∷ rowE ∷ rowG ∷ rowH ∷ rowI ∷ example2 ∷ []
+-- The cases, from A to I, and the example.
+abbrev pub cases : List Case
+cases = caseA ∷ caseB ∷ caseC ∷ caseD ∷ caseE ∷ caseE ∷ caseG ∷ caseH ∷ caseI ∷ example2 ∷ []
 
--- Halving gives each row's conflict and relaxation, count included, and one by one gives the same sets.
-pub record SheetHolds : Type 0 where
-  pub conflicts : map (λ row. conflictByHalving (row .question) (row .requests)) sheet ≡ map (λ row. row .conflict) sheet
-  pub relaxations : map (λ row. relaxationByHalving (row .question) (row .requests)) sheet ≡ map (λ row. row .relaxation) sheet
-  pub conflict-sets : map (λ row. conflictOneByOne (row .question) (row .requests) .set) sheet ≡ map (λ row. row .conflict .set) sheet
-  pub relaxation-sets : map (λ row. relaxationOneByOne (row .question) (row .requests) .set) sheet ≡ map (λ row. row .relaxation .set) sheet
+-- Halving gives each case's conflict and relaxation, count included, and one by one gives the same sets.
+pub record CasesHold : Type 0 where
+  pub conflicts : map (λ case. conflictByHalving (case .question) (case .requests)) cases ≡ map (λ case. case .conflict) cases
+  pub relaxations : map (λ case. relaxationByHalving (case .question) (case .requests)) cases ≡ map (λ case. case .relaxation) cases
+  pub conflict-sets : map (λ case. conflictOneByOne (case .question) (case .requests) .set) cases ≡ map (λ case. case .conflict .set) cases
+  pub relaxation-sets : map (λ case. relaxationOneByOne (case .question) (case .requests) .set) cases ≡ map (λ case. case .relaxation .set) cases
 
 -- "In H {2 1 3} and {4 1 3} are minimal too": {2 4 3} comes before both, as it is without request 1. In E, {1} comes before {2}.
 pub record OrdersHold : Type 0 where

@@ -7,21 +7,21 @@ use Rattle.table.specs.declared.record.Frame.{Frame}
 use Rattle.table.specs.declared.refusals.Refusal.{Refusal}
 use Rattle.table.specs.declared.reading.Reading.the-variants.{Accepted, Refused}
 use Rattle.table.specs.declared.body.Stretch.the-variants.{Found, Missing}
-use Rattle.table.specs.Reading.{reading, numberOf, placeOf}
+use Rattle.table.specs.Reading.{reading, numberOfReading, placeOfReading}
 use Rattle.table.specs.Body.{stretchOf, numberOfStretch, placeOfStretch, sizeOfStretch}
-use Rattle.hainscope.specs.declared.selecting.Asked.the-variants.{TooMuch, Told}
+use Rattle.hainscope.specs.declared.selecting.Verdict.the-variants.{NamesTooMuch, Answered}
 use Rattle.hainscope.specs.Selecting.{namesAbove}
 use Rattle.hainscope.specs.Calls.{ReadCall, BodyCall, CanStandCall, namesTooMuch}
-use Rattle.hainscope.specs.Written.{askedOf, numberOfAsked, standsOfAsked}
+use Rattle.hainscope.specs.Written.{verdictOf, numberOfVerdict, standsOfVerdict}
 use Rattle.hainscope.proofs.Outcomes.{can-stand-too-much, can-stand-answered}
 
 module _ (t : List ℕ) where
   pub read-accepted : (f : Frame) → reading t ≡ Accepted f → ReadCall t 0 0
-  unfolding numberOf placeOf
+  unfolding numberOfReading placeOfReading
   read-accepted f e = record { number-is = rw e; place-is = rw e }
 
   pub read-refused : (refusal : Refusal) → reading t ≡ Refused refusal → ReadCall t (refusal .number) (refusal .place)
-  unfolding numberOf placeOf
+  unfolding numberOfReading placeOfReading
   read-refused refusal e = record { number-is = rw e; place-is = rw e }
 
   module _ (wanted : ℕ) where
@@ -36,25 +36,25 @@ module _ (t : List ℕ) where
 module _ (t : List ℕ) (f : Frame) (selection : ℕ) where
   -- the two ways out of asking about a selection
   pub told-too-much :
-      TooMuch ≡ askedOf t f selection → (namesTooMuch ≡ numberOfAsked (askedOf t f selection)) × (0 ≡ standsOfAsked (askedOf t f selection))
-  unfolding numberOfAsked standsOfAsked
+      NamesTooMuch ≡ verdictOf t f selection → (namesTooMuch ≡ numberOfVerdict (verdictOf t f selection)) × (0 ≡ standsOfVerdict (verdictOf t f selection))
+  unfolding numberOfVerdict standsOfVerdict
   told-too-much e = (rw (← e), rw (← e))
 
   pub told-answer :
       (answer : Bool) (stands : ℕ) →
-      Told answer ≡ askedOf t f selection →
+      Answered answer ≡ verdictOf t f selection →
       stands ≡ cond answer 1 0 →
-      (0 ≡ numberOfAsked (askedOf t f selection)) × (stands ≡ standsOfAsked (askedOf t f selection))
-  unfolding numberOfAsked standsOfAsked
+      (0 ≡ numberOfVerdict (verdictOf t f selection)) × (stands ≡ standsOfVerdict (verdictOf t f selection))
+  unfolding numberOfVerdict standsOfVerdict
   told-answer answer stands e s = (rw (← e), rw (← e) s)
 
 -- the question about an accepted table keeps its promise
 pub question-answered :
     (t : List ℕ) (selection : ℕ) (f : Frame) (number stands : ℕ) →
     reading t ≡ Accepted f →
-    (number ≡ numberOfAsked (askedOf t f selection)) × (stands ≡ standsOfAsked (askedOf t f selection)) →
+    (number ≡ numberOfVerdict (verdictOf t f selection)) × (stands ≡ standsOfVerdict (verdictOf t f selection)) →
     CanStandCall t selection number stands 0
-unfolding numberOfAsked standsOfAsked askedOf
+unfolding numberOfVerdict standsOfVerdict verdictOf
 question-answered t selection f number stands e (n, s) = by (namesAbove (f .requests) selection) refl
   where
     by : (high : Bool) → namesAbove (f .requests) selection ≡ high → CanStandCall t selection number stands 0
