@@ -8,12 +8,12 @@ use Rattle.table.specs.declared.reading.Reading.the-variants.{Accepted}
 use Rattle.table.specs.Reading.{reading}
 use Rattle.table.specs.Kept.{orderOf}
 use Rattle.explain.specs.declared.answers.Method.{Method}
-use Rattle.hainscope.specs.Reports.{tableQuestion, roomFor}
-use Rattle.hainscope.specs.Calls.{ReportCall}
+use Rattle.promises.specs.Reports.{tableQuestion, roomFor}
+use Rattle.promises.specs.Calls.{ReportCall}
 use Rattle.hainscope.specs.Written.{tableAnswer, AcceptedCall}
-use Rattle.hainscope.proofs.Monotone.{question-is-monotone}
-use Rattle.hainscope.proofs.RightAnswers.{right-answer}
-use Rattle.hainscope.proofs.Outcomes.{report-no-room, report-written}
+use Rattle.promises.proofs.Monotone.{question-is-monotone}
+use Rattle.promises.proofs.RightAnswers.{right-answer}
+use Rattle.promises.proofs.Outcomes.{report-no-room, report-written}
 
 pub report-kept :
     (method : Method) (t buffer : List ℕ) (start : ℕ) (f : Frame) (number place : ℕ) (after : List ℕ) →

@@ -15,9 +15,9 @@ use Rattle.table.specs.Kept.{Kept, rowsOf}
 use Rattle.meaning.specs.Stands.{stands, byRole}
 use Rattle.question.specs.MayAsk.{MayAsk}
 use Rattle.hainscope.specs.declared.selecting.Verdict.the-variants.{NamesTooMuch, Answered}
-use Rattle.hainscope.specs.Selecting.{bits, above, namesAbove, canStand}
+use Rattle.promises.specs.Selecting.{bits, above, namesAbove, canStand}
 use Rattle.hainscope.specs.Written.{Spread, verdictOf}
-use Rattle.hainscope.proofs.Bits.{length-bits}
+use Rattle.promises.proofs.Bits.{length-bits}
 
 -- one bit more is spread
 pub bits-turn :

@@ -10,10 +10,10 @@ use Rattle.table.specs.declared.body.Stretch.the-variants.{Found, Missing}
 use Rattle.table.specs.Reading.{reading, numberOfReading, placeOfReading}
 use Rattle.table.specs.Body.{stretchOf, numberOfStretch, placeOfStretch, sizeOfStretch}
 use Rattle.hainscope.specs.declared.selecting.Verdict.the-variants.{NamesTooMuch, Answered}
-use Rattle.hainscope.specs.Selecting.{namesAbove}
-use Rattle.hainscope.specs.Calls.{ReadCall, BodyCall, CanStandCall, namesTooMuch}
+use Rattle.promises.specs.Selecting.{namesAbove}
+use Rattle.promises.specs.Calls.{ReadCall, BodyCall, CanStandCall, namesTooMuch}
 use Rattle.hainscope.specs.Written.{verdictOf, numberOfVerdict, standsOfVerdict}
-use Rattle.hainscope.proofs.Outcomes.{can-stand-too-much, can-stand-answered}
+use Rattle.promises.proofs.Outcomes.{can-stand-too-much, can-stand-answered}
 
 module _ (t : List ℕ) where
   pub read-accepted : (f : Frame) → reading t ≡ Accepted f → ReadCall t 0 0

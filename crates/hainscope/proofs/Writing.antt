@@ -23,8 +23,9 @@ use Rattle.explain.specs.Methods.{answerBy, Answers}
 use Rattle.report.specs.Written.{Written}
 use Rattle.report.proofs.InBuffer.{written-in-buffer, part-from}
 use Rattle.table.proofs.RecordsStand.{length-words}
-use Rattle.hainscope.specs.Reports.{kindBy, roomFor, placeAfter}
-use Rattle.hainscope.specs.Calls.{noRoom}
+use Rattle.promises.specs.Reports.{kindBy, roomFor, placeAfter}
+use Rattle.promises.proofs.Room.{room-within, room-enough}
+use Rattle.promises.specs.Calls.{noRoom}
 use Rattle.hainscope.specs.Written.{tableAnswer, Ready, RecordWritten, AcceptedCall}
 
 -- one word more is loaded
@@ -81,15 +82,6 @@ module _ (t : List ℕ) (f : Frame) (kept : Kept t f) (before order : List ℕ) 
       ∙ ap₂ (λ (o : List ℕ) (n : ℕ). answerBy method (questionOf t f o) n) loaded l in
       subst (λ (x : Answer). Written (kindBy method) (x .status) (x .asked) (orderOf t f) (x .set) part after end) a
       (subst (λ (o : List ℕ). Written (kindBy method) status asked o set part after end) loaded (rw k at w))
-
--- where there is room the start lies within the buffer, and the largest report too
-pub room-within : (n : ℕ) (buffer : List ℕ) (start : ℕ) → roomFor n buffer start ≡ true → start ≤ length buffer
-unfolding roomFor
-room-within n buffer start e = leb-true start (length buffer) (both (leb start (length buffer)) _ e .0)
-
-pub room-enough : (n : ℕ) (buffer : List ℕ) (start : ℕ) → roomFor n buffer start ≡ true → 12 + 2 * n ≤ length buffer - start
-unfolding roomFor
-room-enough n buffer start e = leb-true (12 + 2 * n) (length buffer - start) (both (leb start (length buffer)) _ e .1)
 
 module _ (method : Method) (t : List ℕ) (f : Frame) (buffer : List ℕ) (start : ℕ) (room : Bool) (e : room ≡ (leb start (length buffer) && leb (12 + 2 * f .requests) (length buffer - start))) where
   is-room : room ≡ roomFor (f .requests) buffer start

@@ -12,9 +12,9 @@ use Rattle.explain.specs.Methods.{answerBy}
 use Rattle.report.specs.Written.{Written}
 use Rattle.hainscope.specs.declared.selecting.Verdict.{Verdict}
 use Rattle.hainscope.specs.declared.selecting.Verdict.the-variants.{NamesTooMuch, Answered}
-use Rattle.hainscope.specs.Selecting.{bits, above, namesAbove, canStand}
-use Rattle.hainscope.specs.Reports.{tableQuestion, kindBy, roomFor, placeAfter, bufferAfter}
-use Rattle.hainscope.specs.Calls.{Left, namesTooMuch, noRoom}
+use Rattle.promises.specs.Selecting.{bits, above, namesAbove, canStand}
+use Rattle.promises.specs.Reports.{tableQuestion, kindBy, roomFor, placeAfter, bufferAfter}
+use Rattle.promises.specs.Calls.{Left, namesTooMuch, noRoom}
 
 -- a selection spread over a list by request number, whose first entry, the host's, stays; and what is left of the number
 pub record Spread (before after : List Bool) (selection rest : ℕ) : Type 0 where

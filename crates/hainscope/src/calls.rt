@@ -3,7 +3,7 @@ ghost use mathlib.Core.Path.{_≡_};
 ghost use mathlib.Core.Bool.{cond};
 ghost use Rattle.table.specs.Kept.{Kept};
 ghost use Rattle.explain.specs.declared.answers.Method.the-variants.{ConflictByHalving, ConflictOneByOne, RelaxationByHalving, RelaxationOneByOne};
-ghost use Rattle.hainscope.specs.Calls.{ReadCall, BodyCall, CanStandCall, ReportCall};
+ghost use Rattle.promises.specs.Calls.{ReadCall, BodyCall, CanStandCall, ReportCall};
 ghost use Rattle.hainscope.specs.Written.{verdictOf, numberOfVerdict, standsOfVerdict};
 use crate::reporting::make_report;
 use crate::selecting::Verdict;

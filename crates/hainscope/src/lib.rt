@@ -1,5 +1,5 @@
 // The public face: what the store's server calls, with numbers and byte slices only. Every call answers every
-// input; specs/Calls.antt has what each promises.
+// input; the crate `promises` has what each promises (its specs/Calls.antt).
 pub mod calls;
-pub mod reporting;
-pub mod selecting;
+mod reporting;
+mod selecting;

@@ -9,21 +9,10 @@ use lib.ListN.{length, drop, getD, length-append, drop-of-length-le}
 use lib.Seq.{sets, drop-cons}
 use Rattle.preference.specs.Selection.{Selection}
 use Rattle.preference.specs.Named.{named}
-use Rattle.report.specs.Bytes.{u16Bytes, numbersBytes}
+use Rattle.table.specs.Encoding.{u16, encodeNumbers}
+use Rattle.table.proofs.Sizes.{length-numbers, numbers-append}
 use Rattle.report.specs.Written.{NumbersWritten}
 use Rattle.report.proofs.Stores.{sets-append}
-
--- two bytes for each number
-pub numbers-length : (numbers : List ℕ) → length (numbersBytes numbers) ≡ 2 * length numbers
-unfolding numbersBytes u16Bytes
-numbers-length [] = refl
-numbers-length (n ∷ numbers) = let h = numbers-length numbers in omega arith
-
--- numbers after numbers are bytes after bytes
-pub numbers-append : (front back : List ℕ) → numbersBytes (front ++ back) ≡ numbersBytes front ++ numbersBytes back
-unfolding numbersBytes u16Bytes
-numbers-append [] back = refl
-numbers-append (n ∷ front) back = rw (numbers-append front back)
 
 -- a selection names no more requests than the order has
 pub named-at-most : (order : List ℕ) (flags : Selection) → length (named order flags) ≤ length order
@@ -48,15 +37,15 @@ named-turn order flags i h e =
     rw (add-one, drop-cons order i 0 h, drop-cons flags i false g) (named-cons (getD order i 0) (drop (suc i) order) (getD flags i false) (drop (suc i) flags))
 
 -- a request that is chosen: its number is stored
-pub chosen-stored : (number k : ℕ) (chosen : Bool) (before after : List ℕ) → chosen ≡ true → after ≡ sets before (12 + 2 * k) (u16Bytes number) →
+pub chosen-stored : (number k : ℕ) (chosen : Bool) (before after : List ℕ) → chosen ≡ true → after ≡ sets before (12 + 2 * k) (u16 number) →
     NumbersWritten k (number ∷ []) (chosen ∷ []) before after (k + 1)
-unfolding named numbersBytes u16Bytes
+unfolding named encodeNumbers u16
 chosen-stored number k true before after h e = record { counted = refl; few = omega arith; bytes = e }
 chosen-stored number k false before after h e = absurd (let z : _≡_ {A = ℕ} 0 1 = cc in omega arith)
 
 -- one that is not: nothing is
 pub unchosen-left : (number k : ℕ) (chosen : Bool) (before : List ℕ) → chosen ≡ false → NumbersWritten k (number ∷ []) (chosen ∷ []) before before k
-unfolding named numbersBytes
+unfolding named encodeNumbers
 unchosen-left number k false before h = record { counted = omega arith; few = omega arith; bytes = refl }
 unchosen-left number k true before h = absurd (let z : _≡_ {A = ℕ} 0 1 = cc in omega arith)
 
@@ -65,7 +54,7 @@ pub record Progress (order : List ℕ) (flags : Selection) (before now : List �
   pub kept : length now ≡ length before
   pub few : k ≤ i
   pub counted : k + length (named (drop i order) (drop i flags)) ≡ length (named order flags)
-  pub bytes : sets now (12 + 2 * k) (numbersBytes (named (drop i order) (drop i flags))) ≡ sets before 12 (numbersBytes (named order flags))
+  pub bytes : sets now (12 + 2 * k) (encodeNumbers (named (drop i order) (drop i flags))) ≡ sets before 12 (encodeNumbers (named order flags))
 
 module _ (order : List ℕ) (flags : Selection) (before : List ℕ) where
   -- at the start nothing is stored
@@ -78,19 +67,19 @@ module _ (order : List ℕ) (flags : Selection) (before : List ℕ) where
       i < length order →
       length flags ≡ length order →
       NumbersWritten k (getD order i 0 ∷ []) (getD flags i false ∷ []) now after next →
-      sets after (12 + 2 * next) (numbersBytes (named (drop (i + 1) order) (drop (i + 1) flags)))
-      ≡ sets now (12 + 2 * k) (numbersBytes (named (drop i order) (drop i flags)))
+      sets after (12 + 2 * next) (encodeNumbers (named (drop (i + 1) order) (drop (i + 1) flags)))
+      ≡ sets now (12 + 2 * k) (encodeNumbers (named (drop i order) (drop i flags)))
   bytes-turn i k next now after h e w =
       let here : List ℕ = named (getD order i 0 ∷ []) (getD flags i false ∷ []) in
       let rest : List ℕ = named (drop (i + 1) order) (drop (i + 1) flags) in
-      let l : length (numbersBytes here) ≡ 2 * length here = numbers-length here in
-      let n : 12 + 2 * k + length (numbersBytes here) ≡ 12 + 2 * next = omega arith in
+      let l : length (encodeNumbers here) ≡ 2 * length here = length-numbers here in
+      let n : 12 + 2 * k + length (encodeNumbers here) ≡ 12 + 2 * next = omega arith in
       sym
-      (ap (λ (x : List ℕ). sets now (12 + 2 * k) (numbersBytes x)) (named-turn order flags i h e)
+      (ap (λ (x : List ℕ). sets now (12 + 2 * k) (encodeNumbers x)) (named-turn order flags i h e)
       ∙ ap (λ (x : List ℕ). sets now (12 + 2 * k) x) (numbers-append here rest)
-      ∙ sets-append now (12 + 2 * k) (numbersBytes here) (numbersBytes rest)
-      ∙ ap (λ (x : List ℕ). sets x (12 + 2 * k + length (numbersBytes here)) (numbersBytes rest)) (sym (w .bytes))
-      ∙ ap (λ (x : ℕ). sets after x (numbersBytes rest)) n)
+      ∙ sets-append now (12 + 2 * k) (encodeNumbers here) (encodeNumbers rest)
+      ∙ ap (λ (x : List ℕ). sets x (12 + 2 * k + length (encodeNumbers here)) (encodeNumbers rest)) (sym (w .bytes))
+      ∙ ap (λ (x : ℕ). sets after x (encodeNumbers rest)) n)
 
   -- one turn of the loop
   pub progress-turn :
@@ -114,7 +103,7 @@ module _ (order : List ℕ) (flags : Selection) (before : List ℕ) where
   -- past the last request all are stored
   pub progress-ends :
       {i k : ℕ} {now : List ℕ} → Progress order flags before now k i → length order ≤ i → i ≤ length order → NumbersWritten 0 order flags before now k
-  unfolding named numbersBytes
+  unfolding named encodeNumbers
   progress-ends {i} {k} {now} p h g =
       let none : named (drop i order) (drop i flags) ≡ [] = rw (drop-of-length-le order h) in
       record {

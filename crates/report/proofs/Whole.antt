@@ -7,11 +7,11 @@ use lib.ListN.{length, drop, take}
 use lib.Seq.{sets, sets-eq, drop-at, length-take-le, length-sets}
 use Rattle.preference.specs.Selection.{Selection}
 use Rattle.preference.specs.Named.{named}
-use Rattle.report.specs.Bytes.{numbersBytes}
-use Rattle.report.specs.Report.{headBytes, reportBytes}
-use Rattle.report.specs.Written.{NumbersWritten, Written}
-use Rattle.report.proofs.Chosen.{numbers-length}
-use Rattle.report.proofs.Reports.{head-length}
+use Rattle.table.specs.Encoding.{encodeNumbers}
+use Rattle.report.specs.Report.{reportBytes}
+use Rattle.report.specs.Written.{headBytes, NumbersWritten, Written}
+use Rattle.table.proofs.Sizes.{length-numbers}
+use Rattle.report.proofs.Reports.{head-length, report-headed}
 
 -- what is stored from a list's start on stands before what the list has from there on
 from-start : (bytes l : List ℕ) (n : ℕ) → length bytes ≡ n → n ≤ length l → sets l 0 bytes ≡ bytes ++ drop n l
@@ -32,17 +32,16 @@ pub whole :
     NumbersWritten 0 order flags before between k →
     after ≡ sets between 0 (headBytes kind status count k) →
     Written kind status count order flags before after (12 + 2 * k)
-unfolding reportBytes
 whole kind status count k order flags before between after room w e =
     let numbers : List ℕ = named order flags in
-    let n : length (numbersBytes numbers) ≡ 2 * length numbers = numbers-length numbers in
+    let n : length (encodeNumbers numbers) ≡ 2 * length numbers = length-numbers numbers in
     let counted : k ≡ length numbers = omega (arith, w .counted) in
     let few : k ≤ length order = omega (arith, w .few) in
-    let fits : 12 + length (numbersBytes numbers) ≤ length before = omega arith in
-    let stored : between ≡ sets before 12 (numbersBytes numbers) = w .bytes in
-    let long : length between ≡ length before = ap length stored ∙ length-sets before 12 (numbersBytes numbers) in
+    let fits : 12 + length (encodeNumbers numbers) ≤ length before = omega arith in
+    let stored : between ≡ sets before 12 (encodeNumbers numbers) = w .bytes in
+    let long : length between ≡ length before = ap length stored ∙ length-sets before 12 (encodeNumbers numbers) in
     let long-enough : 12 ≤ length between = omega arith in
-    let end : 12 + length (numbersBytes numbers) ≡ 12 + 2 * k = omega arith in
+    let end : 12 + length (encodeNumbers numbers) ≡ 12 + 2 * k = omega arith in
     record {
       ends = omega arith;
       within = omega arith;
@@ -51,8 +50,9 @@ whole kind status count k order flags before between after room w e =
           ∙ from-start (headBytes kind status count k) between 12 (head-length kind status count k) long-enough
           ∙ ap (λ (x : List ℕ). headBytes kind status count k ++ x)
           (ap (λ (x : List ℕ). drop 12 x) stored
-          ∙ from-place (numbersBytes numbers) before 12 fits
-          ∙ ap (λ (i : ℕ). numbersBytes numbers ++ drop i before) end)
-          ∙ sym (append-assoc (headBytes kind status count k) (numbersBytes numbers) (drop (12 + 2 * k) before))
-          ∙ ap (λ (i : ℕ). headBytes kind status count i ++ numbersBytes numbers ++ drop (12 + 2 * k) before) counted;
+          ∙ from-place (encodeNumbers numbers) before 12 fits
+          ∙ ap (λ (i : ℕ). encodeNumbers numbers ++ drop i before) end)
+          ∙ sym (append-assoc (headBytes kind status count k) (encodeNumbers numbers) (drop (12 + 2 * k) before))
+          ∙ ap (λ (i : ℕ). headBytes kind status count i ++ encodeNumbers numbers ++ drop (12 + 2 * k) before) counted
+          ∙ ap (λ (x : List ℕ). x ++ drop (12 + 2 * k) before) (sym (report-headed kind status count numbers));
     }

@@ -1,29 +1,34 @@
--- The bytes of a report (document 01, "The report").
-use Prim.Native.Nat.{ℕ, _+_, _*_}
+-- The bytes of a report (document 01, "The report": one record, headed as in a table).
+use Prim.Native.Nat.{ℕ, _+_}
 use mathlib.Core.List.{List, _++_}
-use mathlib.Core.Path.{_≡_}
 use lib.ListN.{length}
-use Rattle.report.specs.Bytes.{u16Bytes, u32Bytes, numbersBytes}
+use Rattle.table.specs.Words.{u16At, u32At, words}
+use Rattle.table.specs.Encoding.{u16, u32, recordOf, encodeNumbers}
 
--- The kind of a report that tells a conflict, and of one that tells a relaxation.
+-- kind 16 for a conflict, 17 for a relaxation
 abbrev pub conflictKind : ℕ
 conflictKind = 16
 
 abbrev pub relaxationKind : ℕ
 relaxationKind = 17
 
--- The first 12 bytes: u16 L = 8 + 2k and u16 kind, as every record has them; then the body's u16 status, u32 count and u16 k.
-unfoldable pub headBytes : (kind status count k : ℕ) → List ℕ
-headBytes kind status count k =
-    u16Bytes (8 + 2 * k) ++ (u16Bytes kind ++ (u16Bytes status ++ (u32Bytes count ++ u16Bytes k)))
+-- the body: u16 status, u32 count, u16 k, k request numbers
+unfoldable pub reportBody : (status count : ℕ) (numbers : List ℕ) → List ℕ
+reportBody status count numbers = u16 status ++ u32 count ++ u16 (length numbers) ++ encodeNumbers numbers
 
--- The whole record: its head, and the k request numbers, each a u16.
+-- the whole record
 unfoldable pub reportBytes : (kind status count : ℕ) (numbers : List ℕ) → List ℕ
-reportBytes kind status count numbers = headBytes kind status count (length numbers) ++ numbersBytes numbers
+reportBytes kind status count numbers = recordOf kind (reportBody status count numbers)
 
--- Two reports tell the same.
-pub record SameReport (kind status count : ℕ) (numbers : List ℕ) (kind′ status′ count′ : ℕ) (numbers′ : List ℕ) : Type 0 where
-  pub same-kind : kind ≡ kind′
-  pub same-status : status ≡ status′
-  pub same-count : count ≡ count′
-  pub same-numbers : numbers ≡ numbers′
+-- what stands in the report that begins at a place of a buffer: its status, its count, how many requests it names, and their numbers
+abbrev pub statusAt : List ℕ → ℕ → ℕ
+statusAt buffer start = u16At buffer (start + 4)
+
+abbrev pub countAt : List ℕ → ℕ → ℕ
+countAt buffer start = u32At buffer (start + 6)
+
+abbrev pub namedAt : List ℕ → ℕ → ℕ
+namedAt buffer start = u16At buffer (start + 10)
+
+abbrev pub numbersAt : List ℕ → ℕ → List ℕ
+numbersAt buffer start = words (namedAt buffer start) buffer (start + 12)

@@ -2,7 +2,7 @@
 use mathlib.Core.Path.{sym, _∙_}
 use Rattle.table.proofs.Accepted.{accepted-keeps}
 use Rattle.hainscope.proofs.TableCalls.{question-answered}
-use Rattle.hainscope.proofs.Outcomes.{can-stand-refused}
+use Rattle.promises.proofs.Outcomes.{can-stand-refused}
 use borrow.Author.Needs.{needs}
 use Rattle.hainscope.proofs.calls.hainscope_can_stand.Statement.{statement}
 use Rattle.hainscope.proofs.calls.hainscope_can_stand.Tie as tie

@@ -2,7 +2,7 @@
 use mathlib.Core.Path.{sym, _∙_}
 use Rattle.table.proofs.Accepted.{accepted-keeps}
 use Rattle.hainscope.proofs.Keeping.{report-kept}
-use Rattle.hainscope.proofs.Outcomes.{report-refused}
+use Rattle.promises.proofs.Outcomes.{report-refused}
 use borrow.Author.Needs.{needs}
 use Rattle.hainscope.proofs.reporting.make_report.Statement.{statement}
 use Rattle.hainscope.proofs.reporting.make_report.Tie as tie

@@ -1,5 +1,5 @@
 -- `hainscope::reporting::record_kind` meets its contract.
-use Rattle.hainscope.specs.Reports.{kindBy}
+use Rattle.promises.specs.Reports.{kindBy}
 use borrow.Author.Needs.{needs}
 use Rattle.hainscope.proofs.reporting.record_kind.Statement.{statement}
 use Rattle.hainscope.proofs.reporting.record_kind.Tie as tie

@@ -5,7 +5,7 @@ use Prim.Native.Nat.{_+_}
 use Prim.Native.Nat.{_-_}
 use lib.ListN.{length, length-set}
 use lib.Seq.{sets}
-use Rattle.hainscope.specs.Selecting.{bits, above}
+use Rattle.promises.specs.Selecting.{bits, above}
 use Rattle.hainscope.proofs.Spreading.{bits-turn, above-turn, spread-done}
 use Rattle.hainscope.proofs.selecting.spread.Statement.{statement}
 use Rattle.hainscope.proofs.selecting.spread.Tie as tie

@@ -17,26 +17,26 @@ use Rattle.preference.proofs.Relaxations.{halving-relaxation-gives-the-one-by-o
 use Rattle.explain.specs.declared.answers.Method.{Method}
 use Rattle.explain.specs.declared.answers.Method.the-variants.{ConflictByHalving, ConflictOneByOne, RelaxationByHalving, RelaxationOneByOne}
 use Rattle.explain.specs.Methods.{answerBy}
-use Rattle.report.specs.Bytes.{u16Bytes, u32Bytes}
-use Rattle.report.specs.Report.{headBytes, reportBytes}
-use Rattle.hainscope.specs.Reports.{tableQuestion, kindBy, roomFor}
-use Rattle.hainscope.specs.Calls.{Reported, ReportCall}
-use Rattle.hainscope.specs.Demands.{SameButTheCount, BothMethodsTellOneSet}
-use Rattle.hainscope.proofs.Writing.{room-within}
-use Rattle.hainscope.proofs.Monotone.{question-is-monotone}
-use Rattle.hainscope.proofs.DemandsHold.{right-answer-is-the-methods}
+use Rattle.table.specs.Encoding.{u16, u32, recordOf}
+use Rattle.report.specs.Report.{reportBody, reportBytes}
+use Rattle.promises.specs.Reports.{tableQuestion, kindBy, roomFor}
+use Rattle.promises.specs.Calls.{Reported, ReportCall}
+use Rattle.promises.specs.Demands.{SameButTheCount, BothMethodsTellOneSet}
+use Rattle.promises.proofs.Room.{room-within}
+use Rattle.promises.proofs.Monotone.{question-is-monotone}
+use Rattle.promises.proofs.DemandsHold.{right-answer-is-the-methods}
 
 module _ (kind status count count′ start : ℕ) (numbers front rest : List ℕ) (long : length front ≡ start) where
   -- a report with another count is the same before it
   same-first-bytes :
       take (start + 6) (front ++ (reportBytes kind status count numbers ++ rest)) ≡ take (start + 6) (front ++ (reportBytes kind status count′ numbers ++ rest))
-  unfolding reportBytes headBytes u16Bytes u32Bytes
+  unfolding reportBytes recordOf reportBody u16 u32
   same-first-bytes = rw (← long, take-append-add, take-append-add)
 
   -- and behind it
   same-last-bytes :
       drop (start + 10) (front ++ (reportBytes kind status count numbers ++ rest)) ≡ drop (start + 10) (front ++ (reportBytes kind status count′ numbers ++ rest))
-  unfolding reportBytes headBytes u16Bytes u32Bytes
+  unfolding reportBytes recordOf reportBody u16 u32
   same-last-bytes = rw (← long, drop-append-add, drop-append-add)
 
 module _ (method other : Method) (t : List ℕ) (f : Frame) (buffer : List ℕ) (start n p : ℕ) (a : List ℕ) (n′ p′ : ℕ) (a′ : List ℕ) where

@@ -19,9 +19,9 @@ use Rattle.preference.specs.Depth.{depths}
 use Rattle.explain.specs.declared.answers.Method.{Method}
 use Rattle.explain.specs.declared.answers.Method.the-variants.{ConflictByHalving, ConflictOneByOne, RelaxationByHalving, RelaxationOneByOne}
 use Rattle.explain.specs.Asking.{chosenBy}
-use Rattle.hainscope.specs.Selecting.{namesAbove, selectionOf, canStand}
-use Rattle.hainscope.specs.Reports.{tableQuestion, roomFor}
-use Rattle.hainscope.specs.Calls.{ReadCall, BodyCall, CanStandCall, ReportCall, RightAnswer, Left, Told}
+use Rattle.promises.specs.Selecting.{namesAbove, selectionOf, canStand}
+use Rattle.promises.specs.Reports.{tableQuestion, roomFor}
+use Rattle.promises.specs.Calls.{ReadCall, BodyCall, CanStandCall, ReportCall, RightAnswer, Left, Told}
 
 -- Demand 1: a table is accepted exactly where it is well formed, which is where it stands for a model; so no reading keeps the demands by
 -- refusing tables.

@@ -13,12 +13,12 @@ use Rattle.preference.specs.Selection.{all, none}
 use Rattle.preference.specs.Named.{named}
 use Rattle.preference.proofs.Selections.{getD-none}
 use Rattle.explain.specs.Asking.{chosenBy}
-use Rattle.hainscope.specs.Selecting.{bits, selectionOf, canStand}
-use Rattle.hainscope.specs.Reports.{tableQuestion}
-use Rattle.hainscope.proofs.Bits.{power-is-positive}
-use Rattle.hainscope.proofs.OrderCovers.{order-covers}
+use Rattle.promises.specs.Selecting.{bits, selectionOf, canStand}
+use Rattle.promises.specs.Reports.{tableQuestion}
+use Rattle.promises.proofs.Bits.{power-is-positive}
+use Rattle.promises.proofs.OrderCovers.{order-covers}
 use Rattle.table.proofs.RecordsStand.{length-words}
-use Rattle.hainscope.proofs.PublicQuestion.{asked-in-public}
+use Rattle.promises.proofs.PublicQuestion.{asked-in-public}
 
 -- all bits are set in 2 ^ n - 1
 pub bits-of-all : (n : ℕ) → bits n (2 ^ n - 1) ≡ all n

@@ -18,18 +18,18 @@ use Rattle.preference.specs.Halving.{halveConflict, enterConflict, halveRelax, 
 use Rattle.preference.specs.Answer.{answered}
 use Rattle.explain.specs.Asking.{chosenBy, questionOf}
 use Rattle.explain.specs.Methods.{answerBy}
-use Rattle.report.specs.Bytes.{u16Bytes, u32Bytes, numbersBytes}
-use Rattle.report.specs.Report.{headBytes, reportBytes}
-use Rattle.hainscope.specs.Reports.{kindBy, roomFor}
+use Rattle.table.specs.Encoding.{u16, u32, recordOf, encodeNumbers}
+use Rattle.report.specs.Report.{reportBody, reportBytes}
+use Rattle.promises.specs.Reports.{kindBy, roomFor}
 use lib.ListN.{take}
 use Rattle.explain.specs.declared.answers.Method.the-variants.{ConflictByHalving}
-use Rattle.hainscope.specs.Selecting.{bits, above, namesAbove, canStand}
-use Rattle.hainscope.specs.Sheet.{CallsHold, frameH, lentBuffer, lentStart}
+use Rattle.promises.specs.Selecting.{bits, above, namesAbove, canStand}
+use Rattle.promises.specs.Sheet.{CallsHold, frameH, lentBuffer, lentStart}
 use Rattle.table.specs.Sheet.{tableH}
-use Rattle.hainscope.proofs.Outcomes.{can-stand-answered, can-stand-too-much, report-no-room}
+use Rattle.promises.proofs.Outcomes.{can-stand-answered, can-stand-too-much, report-no-room}
 
 pub calls-hold : CallsHold
-unfolding u16At u32At i32At words total every among allDifferent kindOf isKnown isHead termAt terms clauseAt linearAt rowOf rows within termInRange rowInRange isWhole headFirst inSequence roomForRow lengthRight inRange noRepeat addsToZero nextPhase nextFrame ruleOf stepAt endingOf scan reading isTrue anyOf valueOf product sumOf meets roleOf counts respects meetsAll someSetting stands all none named entered oneConflict oneRelax size treeOf halveConflict enterConflict halveRelax enterRelax answered chosenBy questionOf answerBy u16Bytes u32Bytes numbersBytes headBytes reportBytes kindBy roomFor bits above namesAbove canStand
+unfolding u16At u32At i32At words total every among allDifferent kindOf isKnown isHead termAt terms clauseAt linearAt rowOf rows within termInRange rowInRange isWhole headFirst inSequence roomForRow lengthRight inRange noRepeat addsToZero nextPhase nextFrame ruleOf stepAt endingOf scan reading isTrue anyOf valueOf product sumOf meets roleOf counts respects meetsAll someSetting stands all none named entered oneConflict oneRelax size treeOf halveConflict enterConflict halveRelax enterRelax answered chosenBy questionOf answerBy u16 u32 recordOf encodeNumbers reportBody reportBytes kindBy roomFor bits above namesAbove canStand
 calls-hold =
     record {
       stand = can-stand-answered tableH 11 frameH refl refl;

@@ -12,13 +12,13 @@ use Rattle.table.specs.Kept.{orderOf}
 use Rattle.preference.specs.Answer.{Answer}
 use Rattle.explain.specs.declared.answers.Method.{Method}
 use Rattle.explain.specs.Methods.{answerBy}
-use Rattle.hainscope.specs.Selecting.{namesAbove, canStand}
-use Rattle.hainscope.specs.Reports.{tableQuestion, roomFor, placeAfter, bufferAfter}
-use Rattle.hainscope.specs.Calls.{namesTooMuch, noRoom, Told, CanStandCall, Left, Reported, ReportCall}
-use Rattle.hainscope.specs.Demands.{EveryCallIsAnswered, OnlyOneOutcome}
-use Rattle.hainscope.proofs.Monotone.{question-is-monotone}
-use Rattle.hainscope.proofs.RightAnswers.{right-answer, only-one-right-answer}
-use Rattle.hainscope.proofs.Outcomes.{can-stand-refused, can-stand-too-much, can-stand-answered, report-refused, report-no-room, report-written}
+use Rattle.promises.specs.Selecting.{namesAbove, canStand}
+use Rattle.promises.specs.Reports.{tableQuestion, roomFor, placeAfter, bufferAfter}
+use Rattle.promises.specs.Calls.{namesTooMuch, noRoom, Told, CanStandCall, Left, Reported, ReportCall}
+use Rattle.promises.specs.Demands.{EveryCallIsAnswered, OnlyOneOutcome}
+use Rattle.promises.proofs.Monotone.{question-is-monotone}
+use Rattle.promises.proofs.RightAnswers.{right-answer, only-one-right-answer}
+use Rattle.promises.proofs.Outcomes.{can-stand-refused, can-stand-too-much, can-stand-answered, report-refused, report-no-room, report-written}
 
 -- two answers that are told alike
 pub same-told : {n s p n′ s′ p′ n″ s″ p″ : ℕ} → Told n s p n″ s″ p″ → Told n′ s′ p′ n″ s″ p″ → Told n s p n′ s′ p′

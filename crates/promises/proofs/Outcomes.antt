@@ -11,9 +11,9 @@ use Rattle.table.specs.declared.reading.Reading.the-variants.{Accepted, Refused
 use Rattle.table.specs.Reading.{reading}
 use Rattle.preference.specs.Answer.{Answer}
 use Rattle.explain.specs.declared.answers.Method.{Method}
-use Rattle.hainscope.specs.Selecting.{namesAbove, canStand}
-use Rattle.hainscope.specs.Reports.{tableQuestion, roomFor, placeAfter, bufferAfter}
-use Rattle.hainscope.specs.Calls.{namesTooMuch, noRoom, Told, CanStandCall, RightAnswer, Left, Reported, ReportCall}
+use Rattle.promises.specs.Selecting.{namesAbove, canStand}
+use Rattle.promises.specs.Reports.{tableQuestion, roomFor, placeAfter, bufferAfter}
+use Rattle.promises.specs.Calls.{namesTooMuch, noRoom, Told, CanStandCall, RightAnswer, Left, Reported, ReportCall}
 
 -- true is not false
 clash : {X : Type 0} {b : Bool} → b ≡ true → b ≡ false → X

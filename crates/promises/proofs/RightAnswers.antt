@@ -23,7 +23,7 @@ use Rattle.explain.specs.declared.answers.Method.{Method}
 use Rattle.explain.specs.declared.answers.Method.the-variants.{ConflictByHalving, ConflictOneByOne, RelaxationByHalving, RelaxationOneByOne}
 use Rattle.explain.specs.Methods.{answerBy, askedBy, wholeBy, workedBy}
 use Rattle.explain.proofs.Finishing.{answer-is}
-use Rattle.hainscope.specs.Calls.{ConflictSet, RelaxationSet, SetBy, RightAnswer}
+use Rattle.promises.specs.Calls.{ConflictSet, RelaxationSet, SetBy, RightAnswer}
 
 module _ (ok : Question) (n : ℕ) (whole : Selection) (worked : Part) where
   -- there are three statuses

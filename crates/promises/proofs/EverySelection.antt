@@ -12,11 +12,11 @@ use Rattle.table.specs.Kept.{Kept, orderOf}
 use Rattle.preference.specs.Selection.{Selection}
 use Rattle.preference.specs.Named.{named}
 use Rattle.explain.specs.Asking.{chosenBy}
-use Rattle.hainscope.specs.Selecting.{selectionOf}
-use Rattle.hainscope.specs.Demands.{AskedInPublic}
-use Rattle.hainscope.proofs.OrderCovers.{order-covers}
+use Rattle.promises.specs.Selecting.{selectionOf}
+use Rattle.promises.specs.Demands.{AskedInPublic}
+use Rattle.promises.proofs.OrderCovers.{order-covers}
 use Rattle.table.proofs.RecordsStand.{length-words}
-use Rattle.hainscope.proofs.PublicQuestion.{asked-in-public}
+use Rattle.promises.proofs.PublicQuestion.{asked-in-public}
 
 -- the places of an order whose requests are chosen
 unfoldable pub places-of : List ℕ → (ℕ → Bool) → Selection

@@ -19,8 +19,8 @@ use Rattle.preference.specs.Asking.{questionsOf}
 use Rattle.explain.specs.declared.answers.Method.{Method}
 use Rattle.explain.specs.declared.answers.Method.the-variants.{ConflictByHalving, ConflictOneByOne, RelaxationByHalving, RelaxationOneByOne}
 use Rattle.explain.specs.Methods.{askedBy}
-use Rattle.hainscope.specs.Selecting.{namesAbove, canStand}
-use Rattle.hainscope.specs.Reports.{tableQuestion, roomFor, placeAfter, bufferAfter}
+use Rattle.promises.specs.Selecting.{namesAbove, canStand}
+use Rattle.promises.specs.Reports.{tableQuestion, roomFor, placeAfter, bufferAfter}
 
 -- refusals 11 and 12, by name
 abbrev pub namesTooMuch : ℕ

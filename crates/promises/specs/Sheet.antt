@@ -15,8 +15,8 @@ use Rattle.preference.specs.Answer.{Answer}
 use Rattle.explain.specs.declared.answers.Method.{Method}
 use Rattle.explain.specs.declared.answers.Method.the-variants.{ConflictByHalving, ConflictOneByOne, RelaxationByHalving, RelaxationOneByOne}
 use Rattle.explain.specs.Methods.{answerBy}
-use Rattle.hainscope.specs.Reports.{tableQuestion, roomFor, numbersOf, placeAfter, bufferAfter}
-use Rattle.hainscope.specs.Calls.{CanStandCall, ReportCall}
+use Rattle.promises.specs.Reports.{tableQuestion, roomFor, numbersOf, placeAfter, bufferAfter}
+use Rattle.promises.specs.Calls.{CanStandCall, ReportCall}
 
 -- what one method answers: status, how many questions it asked, and the request numbers of its set in the order's order
 pub record Line : Type 0 where

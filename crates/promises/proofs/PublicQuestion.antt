@@ -11,10 +11,10 @@ use Rattle.meaning.proofs.Choices.{same-on-table}
 use Rattle.preference.specs.Selection.{Selection}
 use Rattle.preference.specs.Question.{Agree}
 use Rattle.explain.specs.Asking.{chosenBy, questionOf}
-use Rattle.hainscope.specs.Selecting.{namesAbove, selectionOf, canStand}
-use Rattle.hainscope.specs.Reports.{tableQuestion}
-use Rattle.hainscope.specs.Demands.{StandAlike}
-use Rattle.hainscope.proofs.Bits.{LentAs, bits-of-some-number}
+use Rattle.promises.specs.Selecting.{namesAbove, selectionOf, canStand}
+use Rattle.promises.specs.Reports.{tableQuestion}
+use Rattle.promises.specs.Demands.{StandAlike}
+use Rattle.promises.proofs.Bits.{LentAs, bits-of-some-number}
 
 -- the flags of n places, each by its number
 unfoldable pub flags-of : ℕ → (ℕ → Bool) → List Bool

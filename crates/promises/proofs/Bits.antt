@@ -9,7 +9,7 @@ use native.Mathlib.Nat.{pow-succ', pow-suc, div-div-eq-div-mul, div-eq-of-lt, di
 use lib.Dec.{eqb}
 use lib.ListN.{length, getD}
 use borrow.Author.Tests.{eq-eqb, eqb-true, not-false}
-use Rattle.hainscope.specs.Selecting.{bits, above, namesAbove, selectionOf}
+use Rattle.promises.specs.Selecting.{bits, above, namesAbove, selectionOf}
 
 -- there are n of them
 pub length-bits : (n number : ℕ) → length (bits n number) ≡ n

@@ -24,15 +24,15 @@ use Rattle.preference.proofs.Relaxations.{halving-relaxation-asks-nothing-else}
 use Rattle.explain.specs.declared.answers.Method.{Method}
 use Rattle.explain.specs.declared.answers.Method.the-variants.{ConflictByHalving, ConflictOneByOne, RelaxationByHalving, RelaxationOneByOne}
 use Rattle.explain.specs.Methods.{answerBy}
-use Rattle.hainscope.specs.Reports.{tableQuestion, roomFor}
-use Rattle.hainscope.specs.Calls.{RightAnswer, Left, Reported, ReportCall}
-use Rattle.hainscope.specs.Demands.{TablesAreReadRight, TheSetsAreRight, EveryTableHasTheRightSets, StandAlike, ReportsTellNoMore, TheCountIsBounded, EveryCountIsBounded}
-use Rattle.hainscope.proofs.Monotone.{question-is-monotone}
-use Rattle.hainscope.proofs.RightAnswers.{right-answer, only-one-right-answer}
-use Rattle.hainscope.proofs.OnlyOne.{same-left}
-use Rattle.hainscope.proofs.PublicQuestion.{questions-agree}
-use Rattle.hainscope.proofs.EverySelection.{every-selection-is-asked}
-use Rattle.hainscope.proofs.WholeSelection.{all-requests-asked-in-public, host-alone-asked-in-public}
+use Rattle.promises.specs.Reports.{tableQuestion, roomFor}
+use Rattle.promises.specs.Calls.{RightAnswer, Left, Reported, ReportCall}
+use Rattle.promises.specs.Demands.{TablesAreReadRight, TheSetsAreRight, EveryTableHasTheRightSets, StandAlike, ReportsTellNoMore, TheCountIsBounded, EveryCountIsBounded}
+use Rattle.promises.proofs.Monotone.{question-is-monotone}
+use Rattle.promises.proofs.RightAnswers.{right-answer, only-one-right-answer}
+use Rattle.promises.proofs.OnlyOne.{same-left}
+use Rattle.promises.proofs.PublicQuestion.{questions-agree}
+use Rattle.promises.proofs.EverySelection.{every-selection-is-asked}
+use Rattle.promises.proofs.WholeSelection.{all-requests-asked-in-public, host-alone-asked-in-public}
 
 -- ---- demand 1
 

@@ -18,10 +18,10 @@ use Rattle.preference.specs.Halving.{halveConflict, enterConflict, halveRelax, 
 use Rattle.preference.specs.Answer.{answered}
 use Rattle.explain.specs.Asking.{chosenBy, questionOf}
 use Rattle.explain.specs.Methods.{answerBy}
-use Rattle.report.specs.Bytes.{u16Bytes, u32Bytes, numbersBytes}
-use Rattle.report.specs.Report.{headBytes, reportBytes}
-use Rattle.hainscope.specs.Reports.{kindBy, roomFor}
-use Rattle.hainscope.specs.Sheet.{SheetHolds, ReportsHold, lineOf, answersBy}
+use Rattle.table.specs.Encoding.{u16, u32, recordOf, encodeNumbers}
+use Rattle.report.specs.Report.{reportBody, reportBytes}
+use Rattle.promises.specs.Reports.{kindBy, roomFor}
+use Rattle.promises.specs.Sheet.{SheetHolds, ReportsHold, lineOf, answersBy}
 
 pub sheet-holds : SheetHolds
 unfolding u16At u32At i32At words total every among allDifferent kindOf isKnown isHead termAt terms clauseAt linearAt rowOf rows within termInRange rowInRange isWhole headFirst inSequence roomForRow lengthRight inRange noRepeat addsToZero nextPhase nextFrame ruleOf stepAt endingOf scan reading isTrue anyOf valueOf product sumOf meets roleOf counts respects meetsAll someSetting stands all none named entered oneConflict oneRelax size treeOf halveConflict enterConflict halveRelax enterRelax answered chosenBy questionOf answerBy lineOf answersBy
@@ -29,7 +29,7 @@ sheet-holds = record { rows = refl; damaged = refl }
 
 -- three reports of the sheet as bytes in a lent buffer
 pub reports-hold : ReportsHold
-unfolding u16At u32At i32At words total every among allDifferent kindOf isKnown isHead termAt terms clauseAt linearAt rowOf rows within termInRange rowInRange isWhole headFirst inSequence roomForRow lengthRight inRange noRepeat addsToZero nextPhase nextFrame ruleOf stepAt endingOf scan reading isTrue anyOf valueOf product sumOf meets roleOf counts respects meetsAll someSetting stands all none named entered oneConflict oneRelax size treeOf halveConflict enterConflict halveRelax enterRelax answered chosenBy questionOf answerBy u16Bytes u32Bytes numbersBytes headBytes reportBytes kindBy roomFor
+unfolding u16At u32At i32At words total every among allDifferent kindOf isKnown isHead termAt terms clauseAt linearAt rowOf rows within termInRange rowInRange isWhole headFirst inSequence roomForRow lengthRight inRange noRepeat addsToZero nextPhase nextFrame ruleOf stepAt endingOf scan reading isTrue anyOf valueOf product sumOf meets roleOf counts respects meetsAll someSetting stands all none named entered oneConflict oneRelax size treeOf halveConflict enterConflict halveRelax enterRelax answered chosenBy questionOf answerBy u16 u32 recordOf encodeNumbers reportBody reportBytes kindBy roomFor
 reports-hold =
     record {
       conflict-H = record { accepted = refl; room = refl; bytes = refl; ends = refl };
