@@ -2,7 +2,8 @@
 --   Accepted      an accepted table keeps its frame (`accepted-keeps`)
 --   Scanned       and one that keeps its frame is accepted (`keeps-accepted`)
 --   OneMeaning    accepted tables are exactly the encodings of models, one table a model
---   Samples       closed tables, read by computation; SheetEncoded, the sample sheet as models
+--   FirstFault    the first fault of tables with one or two, and each limit at both sides, by computation
+--   Samples       table H, read by computation; SheetEncoded, the sample sheet as models
 -- For writers of tables:
 --   Sizes         lengths of records and of the encoding; appending a row, a number, a term
 --   CheckWord     the CHECK word: what makes the words add to zero, and that nothing else does
@@ -18,6 +19,7 @@ pub mod KindNumbers
 pub mod Steps
 pub mod Accepted
 pub mod Bodies
+pub mod FirstFault
 pub mod Samples
 pub mod Standing
 pub mod Limited

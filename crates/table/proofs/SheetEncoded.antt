@@ -13,14 +13,14 @@ use Rattle.table.specs.Tests.{isWhole, headFirst, inSequence, roomForRow
 use Rattle.table.specs.Reading.{ruleOf, stepAt, endingOf, scan, reading}
 use Rattle.table.specs.Model.{Model, Each, Different, IsI32, RowWithin, WithinLimits}
 use Rattle.table.specs.Encoding.{u16, u32, i32, recordOf, encodeNumbers, encodeTerm, encodeTerms, encodeRow, encodeRows, encodeHead, encodeOrder, beforeCheck, sumOfWords, checkWord, encodeCheck, sealed, encode, frameOf, StandsFor}
-use Rattle.table.specs.Sheet.{bibMap, sheetModels, sheetTables, modelH, tableH}
+use Rattle.table.specs.Sheet.{bibMap, sheetModels, sheetTables, modelH, modelThree, tableH}
 
 -- H, byte for byte
 pub h-encoded : encode modelH ≡ tableH
 unfolding u16 u32 i32 recordOf encodeNumbers encodeTerm encodeTerms encodeRow encodeRows encodeHead encodeOrder beforeCheck sumOfWords checkWord encodeCheck sealed encode
 h-encoded = refl
 
--- A to K, one claim
+-- all of them, one claim
 pub sheet-encoded : map encode sheetModels ≡ sheetTables
 unfolding u16 u32 i32 recordOf encodeNumbers encodeTerm encodeTerms encodeRow encodeRows encodeHead encodeOrder beforeCheck sumOfWords checkWord encodeCheck sealed encode
 sheet-encoded = refl
@@ -34,6 +34,19 @@ sheet-accepted = refl
 bib-map-within : (budget : ℕ) → budget < 2147483648 → WithinLimits (bibMap budget)
 unfolding Each Different RowWithin IsI32
 bib-map-within budget h =
+    record {
+      few-variables = omega arith;
+      few-requests = omega arith;
+      few-rows = omega arith;
+      rows-within = omega arith;
+      order-whole = refl;
+      order-within = omega arith;
+      order-different = omega arith;
+    }
+
+three-within : WithinLimits modelThree
+unfolding Each Different RowWithin IsI32
+three-within =
     record {
       few-variables = omega arith;
       few-requests = omega arith;
@@ -60,7 +73,7 @@ sheet-within = (
             omega arith,
             (
               omega arith,
-              (bib-map-within 4000 (omega arith), (bib-map-within 4100 (omega arith), (omega arith, (omega arith, tt)))),
+              (bib-map-within 4000 (omega arith), (bib-map-within 4100 (omega arith), (omega arith, (omega arith, (three-within, tt))))),
             ),
           ),
         ),

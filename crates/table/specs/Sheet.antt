@@ -77,10 +77,24 @@ abbrev pub modelK : Model
 modelK =
     record { variables = 1; requests = 1; rows = linear 0 (negsuc 0) (times (negsuc 2) 0 ∷ []) ∷ clause 1 (1 ∷ []) ∷ []; order = 1 ∷ [] }
 
--- the sheet's models, A to K
+-- Three requests, a number that halving cuts into one and two, which no row of the sheet is: 1, 1 and 2 of a budget of 2 are wanted, order 1 2 3
+abbrev pub modelThree : Model
+modelThree =
+    record {
+      variables = 3;
+      requests = 3;
+      rows = linear 0 (pos 2) (times (pos 1) 0 ∷ times (pos 1) 1 ∷ times (pos 2) 2 ∷ [])
+          ∷ clause 1 (0 ∷ [])
+          ∷ clause 2 (2 ∷ [])
+          ∷ clause 3 (4 ∷ [])
+          ∷ [];
+      order = 1 ∷ 2 ∷ 3 ∷ [];
+    }
+
+-- the sheet's models, A to K, and that of three requests
 abbrev pub sheetModels : List Model
 sheetModels =
-    modelA ∷ modelB ∷ modelC ∷ modelD ∷ modelE ∷ modelF ∷ modelG ∷ modelH ∷ modelI ∷ modelJ ∷ modelK ∷ []
+    modelA ∷ modelB ∷ modelC ∷ modelD ∷ modelE ∷ modelF ∷ modelG ∷ modelH ∷ modelI ∷ modelJ ∷ modelK ∷ modelThree ∷ []
 
 -- A, a record a line
 abbrev pub tableA : List ℕ
@@ -183,7 +197,18 @@ tableK =
     ++ (0x02 ∷ 0x00 ∷ 0x04 ∷ 0x00 ∷ 0x01 ∷ 0x00 ∷ [])
     ++ (0x02 ∷ 0x00 ∷ 0x05 ∷ 0x00 ∷ 0xDA ∷ 0xFF ∷ [])
 
--- the sheet's tables, A to K
+-- the table of three requests, a record a line
+abbrev pub tableThree : List ℕ
+tableThree =
+    (0x04 ∷ 0x00 ∷ 0x01 ∷ 0x00 ∷ 0x03 ∷ 0x00 ∷ 0x03 ∷ 0x00 ∷ [])
+    ++ (0x18 ∷ 0x00 ∷ 0x03 ∷ 0x00 ∷ 0x00 ∷ 0x00 ∷ 0x02 ∷ 0x00 ∷ 0x00 ∷ 0x00 ∷ 0x00 ∷ 0x00 ∷ 0x01 ∷ 0x00 ∷ 0x00 ∷ 0x00 ∷ 0x01 ∷ 0x00 ∷ 0x01 ∷ 0x00 ∷ 0x00 ∷ 0x00 ∷ 0x02 ∷ 0x00 ∷ 0x02 ∷ 0x00 ∷ 0x00 ∷ 0x00 ∷ [])
+    ++ (0x04 ∷ 0x00 ∷ 0x02 ∷ 0x00 ∷ 0x01 ∷ 0x00 ∷ 0x00 ∷ 0x00 ∷ [])
+    ++ (0x04 ∷ 0x00 ∷ 0x02 ∷ 0x00 ∷ 0x02 ∷ 0x00 ∷ 0x02 ∷ 0x00 ∷ [])
+    ++ (0x04 ∷ 0x00 ∷ 0x02 ∷ 0x00 ∷ 0x03 ∷ 0x00 ∷ 0x04 ∷ 0x00 ∷ [])
+    ++ (0x06 ∷ 0x00 ∷ 0x04 ∷ 0x00 ∷ 0x01 ∷ 0x00 ∷ 0x02 ∷ 0x00 ∷ 0x03 ∷ 0x00 ∷ [])
+    ++ (0x02 ∷ 0x00 ∷ 0x05 ∷ 0x00 ∷ 0x9C ∷ 0xFF ∷ [])
+
+-- the sheet's tables, A to K, and that of three requests
 abbrev pub sheetTables : List (List ℕ)
 sheetTables =
-    tableA ∷ tableB ∷ tableC ∷ tableD ∷ tableE ∷ tableF ∷ tableG ∷ tableH ∷ tableI ∷ tableJ ∷ tableK ∷ []
+    tableA ∷ tableB ∷ tableC ∷ tableD ∷ tableE ∷ tableF ∷ tableG ∷ tableH ∷ tableI ∷ tableJ ∷ tableK ∷ tableThree ∷ []

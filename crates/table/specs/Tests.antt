@@ -28,7 +28,7 @@ headFirst Checked kind = not (isHead kind)
 -- 7: HEAD comes first, then rows, one ORDER, one CHECK, and the end
 unfoldable pub inSequence : Phase → Kind → Bool
 inSequence Start kind = true
-inSequence Rows Head = true
+inSequence Rows Head = false
 inSequence Rows Clause = true
 inSequence Rows Linear = true
 inSequence Rows Order = true
