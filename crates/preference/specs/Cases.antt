@@ -102,9 +102,19 @@ example2 =
       relaxation = answer 1 (all 11 ++ (false ∷ all 4)) 7;
     }
 
--- The cases, from A to I, and the example.
+-- Three requests want 1, 1 and 2 of a budget of 2: a part of three is cut into the first one and the rest, and not into the first two and the last.
+abbrev pub caseThree : Case
+caseThree =
+    record {
+      question = withinBudget (1 ∷ 1 ∷ 2 ∷ []) 2;
+      requests = 3;
+      conflict = answer 1 (true ∷ false ∷ true ∷ []) 6;
+      relaxation = answer 1 (true ∷ true ∷ false ∷ []) 4;
+    }
+
+-- The cases, from A to I, the example, and the one of three requests.
 abbrev pub cases : List Case
-cases = caseA ∷ caseB ∷ caseC ∷ caseD ∷ caseE ∷ caseE ∷ caseG ∷ caseH ∷ caseI ∷ example2 ∷ []
+cases = caseA ∷ caseB ∷ caseC ∷ caseD ∷ caseE ∷ caseE ∷ caseG ∷ caseH ∷ caseI ∷ example2 ∷ caseThree ∷ []
 
 -- Halving gives each case's conflict and relaxation, count included, and one by one gives the same sets.
 pub record CasesHold : Type 0 where
