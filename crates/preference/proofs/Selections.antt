@@ -1,11 +1,12 @@
 -- Laws of selections: all and none of the requests, subsets, and how many are kept and dropped.
 use mathlib.Core.Path.{_≡_, refl, sym, ap}
 use mathlib.Core.Bool.{Bool, true, false}
-use mathlib.Core.List.{[], _∷_, _++_}
+use mathlib.Core.List.{List, [], _∷_, _++_}
 use Prim.Native.Nat.{ℕ, zero, suc, _+_}
 use native.Mathlib.Omega.{arith}
 use lib.ListN.{length, getD, replicate, length-replicate, replicate-append-replicate}
 use Rattle.preference.specs.Selection.{Selection, all, none, kept, dropped, _⊆_, ends, same, more}
+use Rattle.preference.specs.Named.{named}
 
 pub length-all : (n : ℕ) → length (all n) ≡ n
 unfolding all
@@ -101,3 +102,12 @@ unfolding all
 getD-all zero k = refl
 getD-all (suc n) zero = refl
 getD-all (suc n) (suc k) = getD-all n k
+
+-- a selection names as many requests as it keeps
+pub length-named : (order : List ℕ) (X : Selection) → length X ≡ length order → length (named order X) ≡ kept X
+unfolding named kept
+length-named [] [] e = refl
+length-named [] (b ∷ X) e = absurd (omega arith)
+length-named (request ∷ order) [] e = absurd (omega arith)
+length-named (request ∷ order) (true ∷ X) e = ap suc (length-named order X (omega arith))
+length-named (request ∷ order) (false ∷ X) e = length-named order X (omega arith)

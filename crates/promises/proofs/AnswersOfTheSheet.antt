@@ -37,4 +37,8 @@ reports-hold =
       conflict-C = record { accepted = refl; room = refl; bytes = refl; ends = refl };
       room-H = refl;
       no-room-H = refl;
+      room-C = refl;
+      no-room-C = refl;
+      room-A = refl;
+      no-room-A = refl;
     }

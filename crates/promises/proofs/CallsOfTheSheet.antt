@@ -24,8 +24,9 @@ use Rattle.promises.specs.Reports.{kindBy, roomFor}
 use lib.ListN.{take}
 use Rattle.explain.specs.declared.answers.Method.the-variants.{ConflictByHalving}
 use Rattle.promises.specs.Selecting.{bits, above, namesAbove, canStand}
-use Rattle.promises.specs.Sheet.{CallsHold, frameH, lentBuffer, lentStart}
+use Rattle.promises.specs.Sheet.{CallsHold, lentBuffer, lentStart}
 use Rattle.table.specs.Sheet.{tableH}
+use Rattle.table.specs.Samples.{frameH}
 use Rattle.promises.proofs.Outcomes.{can-stand-answered, can-stand-too-much, report-no-room}
 
 pub calls-hold : CallsHold
@@ -34,6 +35,9 @@ calls-hold =
     record {
       stand = can-stand-answered tableH 11 frameH refl refl;
       fall = can-stand-answered tableH 14 frameH refl refl;
+      fall-123 = can-stand-answered tableH 7 frameH refl refl;
+      stand-12 = can-stand-answered tableH 3 frameH refl refl;
+      stand-34 = can-stand-answered tableH 12 frameH refl refl;
       above-N = can-stand-too-much tableH 16 frameH refl refl;
       short = report-no-room ConflictByHalving tableH (take 21 lentBuffer) lentStart frameH refl refl;
     }

@@ -29,6 +29,7 @@ use Rattle.promises.specs.Calls.{RightAnswer, Left, Reported, ReportCall
 use Rattle.promises.specs.Demands.{TablesAreReadRight, TheSetsAreRight, EveryTableHasTheRightSets, StandAlike, ReportsTellNoMore, TheCountIsBounded, EveryCountIsBounded}
 use Rattle.promises.proofs.Monotone.{question-is-monotone}
 use Rattle.promises.proofs.RightAnswers.{right-answer, only-one-right-answer}
+use Rattle.promises.proofs.Outcomes.{can-stand-exactly}
 use Rattle.promises.proofs.OnlyOne.{same-left}
 use Rattle.promises.proofs.PublicQuestion.{questions-agree}
 use Rattle.promises.proofs.EverySelection.{every-selection-is-asked}
@@ -69,6 +70,7 @@ module _ (t : List ℕ) (f : Frame) where
   pub the-sets-are-right : Kept t f → TheSetsAreRight t f
   the-sets-are-right kept =
       record {
+        stands-exactly = can-stand-exactly t f;
         every-selection = every-selection-is-asked t f kept;
         all-requests = all-requests-asked-in-public t f kept;
         host-alone = host-alone-asked-in-public t f kept;

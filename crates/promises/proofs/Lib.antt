@@ -24,3 +24,4 @@ pub mod WholeSelection
 pub mod Room
 pub mod DemandsHold
 pub mod BothMethods
+pub mod BoundOfTheReports

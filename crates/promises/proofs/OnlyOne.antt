@@ -1,8 +1,10 @@
 -- Demand 1: every call has an outcome that keeps its promise, and only one.
-use Prim.Native.Nat.{ℕ}
+use Prim.Native.Nat.{ℕ, zero, suc, _≤_}
 use mathlib.Core.Path.{_≡_, refl, sym, subst, _∙_}
 use mathlib.Core.Bool.{Bool, true, false, cond}
+use mathlib.Core.Logic.{_↔_}
 use mathlib.Core.List.{List}
+use native.Mathlib.Omega.{arith}
 use Rattle.table.specs.declared.record.Frame.{Frame}
 use Rattle.table.specs.declared.reading.Reading.{Reading}
 use Rattle.table.specs.declared.reading.Reading.the-variants.{Accepted, Refused}
@@ -14,18 +16,34 @@ use Rattle.explain.specs.declared.answers.Method.{Method}
 use Rattle.explain.specs.Methods.{answerBy}
 use Rattle.promises.specs.Selecting.{namesAbove, canStand}
 use Rattle.promises.specs.Reports.{tableQuestion, roomFor, placeAfter, bufferAfter}
-use Rattle.promises.specs.Calls.{namesTooMuch, noRoom, Told, CanStandCall, Left, Reported, ReportCall}
+use Rattle.promises.specs.Calls.{namesTooMuch, noRoom, Told, Stands, CanStandCall, Left, Reported, ReportCall}
 use Rattle.promises.specs.Demands.{EveryCallIsAnswered, OnlyOneOutcome}
 use Rattle.promises.proofs.Monotone.{question-is-monotone}
 use Rattle.promises.proofs.RightAnswers.{right-answer, only-one-right-answer}
 use Rattle.promises.proofs.Outcomes.{can-stand-refused, can-stand-too-much, can-stand-answered, report-refused, report-no-room, report-written}
 
--- two answers that are told alike
+-- two refusals that are told alike
 pub same-told : {n s p n′ s′ p′ n″ s″ p″ : ℕ} → Told n s p n″ s″ p″ → Told n′ s′ p′ n″ s″ p″ → Told n s p n′ s′ p′
 same-told a b =
     record {
       number-is = a .number-is ∙ sym (b .number-is);
       stands-is = a .stands-is ∙ sym (b .stands-is);
+      place-is = a .place-is ∙ sym (b .place-is);
+    }
+
+-- two numbers that are 0 or 1, and 1 where the same holds
+same-bit : {P : Type 0} (a b : ℕ) → a ≤ 1 → b ≤ 1 → (a ≡ 1 ↔ P) → (b ≡ 1 ↔ P) → a ≡ b
+same-bit zero zero h g p q = refl
+same-bit zero (suc b) h g p q = let e : suc b ≡ 1 = omega arith in absurd (let z : _≡_ {A = ℕ} 0 1 = p .1 (q .0 e) in omega arith)
+same-bit (suc a) b h g p q = let e : suc a ≡ 1 = omega arith in e ∙ sym (q .1 (p .0 e))
+
+-- two answers to one question
+same-stands :
+    {t : List ℕ} {f : Frame} {selection n s p n′ s′ p′ : ℕ} → Stands t f selection n s p → Stands t f selection n′ s′ p′ → Told n s p n′ s′ p′
+same-stands {s = s} {s′ = s′} a b =
+    record {
+      number-is = a .number-is ∙ sym (b .number-is);
+      stands-is = same-bit s s′ (a .bit) (b .bit) (a .exactly) (b .exactly);
       place-is = a .place-is ∙ sym (b .place-is);
     }
 
@@ -58,7 +76,7 @@ only-one-answer t selection n s p n′ s′ p′ one other = by (reading t) refl
   where
     within : (f : Frame) → reading t ≡ Accepted f → (high : Bool) → namesAbove (f .requests) selection ≡ high → Told n s p n′ s′ p′
     within f e true h = same-told (one .too-much f e h) (other .too-much f e h)
-    within f e false h = same-told (one .answered f e h) (other .answered f e h)
+    within f e false h = same-stands (one .answered f e h) (other .answered f e h)
 
     by : (told : Reading) → reading t ≡ told → Told n s p n′ s′ p′
     by (Accepted f) e = within f e (namesAbove (f .requests) selection) refl

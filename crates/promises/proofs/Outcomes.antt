@@ -1,7 +1,8 @@
 -- One law for each way out of a public call: what it returns and leaves there keeps the call's promise.
-use Prim.Native.Nat.{ℕ}
+use Prim.Native.Nat.{ℕ, _≤_}
 use mathlib.Core.Path.{_≡_, refl, subst}
 use mathlib.Core.Bool.{Bool, true, false, cond}
+use mathlib.Core.Logic.{_↔_}
 use mathlib.Core.List.{List}
 use native.Mathlib.Omega.{arith}
 use Rattle.table.specs.declared.record.Frame.{Frame}
@@ -9,11 +10,13 @@ use Rattle.table.specs.declared.refusals.Refusal.{Refusal}
 use Rattle.table.specs.declared.reading.Reading.{Reading}
 use Rattle.table.specs.declared.reading.Reading.the-variants.{Accepted, Refused}
 use Rattle.table.specs.Reading.{reading}
+use Rattle.table.specs.Kept.{rowsOf}
+use Rattle.meaning.proofs.Standing.{stands-exactly}
 use Rattle.preference.specs.Answer.{Answer}
 use Rattle.explain.specs.declared.answers.Method.{Method}
-use Rattle.promises.specs.Selecting.{namesAbove, canStand}
+use Rattle.promises.specs.Selecting.{namesAbove, selectionOf, SomeSettingMeets, canStand}
 use Rattle.promises.specs.Reports.{tableQuestion, roomFor, placeAfter, bufferAfter}
-use Rattle.promises.specs.Calls.{namesTooMuch, noRoom, Told, CanStandCall, RightAnswer, Left, Reported, ReportCall}
+use Rattle.promises.specs.Calls.{namesTooMuch, noRoom, Told, Stands, CanStandCall, RightAnswer, Left, Reported, ReportCall}
 
 -- true is not false
 clash : {X : Type 0} {b : Bool} → b ≡ true → b ≡ false → X
@@ -31,6 +34,20 @@ module _ {told : Reading} where
   -- with one frame
   pub one-frame : {f g : Frame} → told ≡ Accepted f → told ≡ Accepted g → f ≡ g
   one-frame e g = cc
+
+-- a selection stands exactly where some setting meets the host rows and those of the selected requests
+pub can-stand-exactly : (t : List ℕ) (f : Frame) (selection : ℕ) → canStand t f selection ≡ true ↔ SomeSettingMeets t f selection
+unfolding canStand
+can-stand-exactly t f selection = stands-exactly (rowsOf t f) (f .variables) (selectionOf (f .requests) selection)
+
+-- 1 or 0 for an answer
+bit-of : (answer : Bool) → cond answer 1 0 ≤ 1
+bit-of true = omega arith
+bit-of false = omega arith
+
+one-of : (answer : Bool) → _≡_ {A = ℕ} (cond answer 1 0) 1 → answer ≡ true
+one-of true e = refl
+one-of false e = absurd (omega arith)
 
 module _ (t : List ℕ) (selection : ℕ) where
   -- the question about a table that is refused
@@ -62,9 +79,14 @@ module _ (t : List ℕ) (selection : ℕ) where
           refused = λ r g. not-both e g;
           too-much = λ other g h. clash h (rw (one-frame e g) at low);
           answered =
-              λ other g h. subst (λ (x : Frame). Told 0 (cond (canStand t f selection) 1 0) 0 0 (cond (canStand t x selection) 1 0) 0) (one-frame e g)
-              (record { number-is = refl; stands-is = refl; place-is = refl });
+              λ other g h. subst (λ (x : Frame). Stands t x selection 0 (cond (canStand t f selection) 1 0) 0) (one-frame e g)
+              (record { number-is = refl; place-is = refl; bit = bit-of (canStand t f selection); exactly = one-exactly });
         }
+      where
+        one-exactly : _≡_ {A = ℕ} (cond (canStand t f selection) 1 0) 1 ↔ SomeSettingMeets t f selection
+        one-exactly =
+            let exactly = can-stand-exactly t f selection in
+            (λ one. exactly .0 (one-of (canStand t f selection) one), λ met. rw (exactly .1 met))
 
 module _ (method : Method) (t buffer : List ℕ) (start : ℕ) where
   -- a report about a table that is refused

@@ -3,7 +3,7 @@
 use Prim.Native.Nat.{ℕ, _≤_}
 use mathlib.Core.Path.{_≡_}
 use mathlib.Core.Logic.{_↔_}
-use mathlib.Core.Bool.{true, false, cond}
+use mathlib.Core.Bool.{true, false}
 use mathlib.Core.List.{List}
 use lib.ListN.{length}
 use Rattle.table.specs.declared.record.Frame.{Frame}
@@ -19,7 +19,7 @@ use Rattle.preference.specs.Asking.{questionsOf}
 use Rattle.explain.specs.declared.answers.Method.{Method}
 use Rattle.explain.specs.declared.answers.Method.the-variants.{ConflictByHalving, ConflictOneByOne, RelaxationByHalving, RelaxationOneByOne}
 use Rattle.explain.specs.Methods.{askedBy}
-use Rattle.promises.specs.Selecting.{namesAbove, canStand}
+use Rattle.promises.specs.Selecting.{namesAbove, SomeSettingMeets}
 use Rattle.promises.specs.Reports.{tableQuestion, roomFor, placeAfter, bufferAfter}
 
 -- refusals 11 and 12, by name
@@ -40,18 +40,24 @@ pub record BodyCall (t : List ℕ) (wanted number size place : ℕ) : Type 0 whe
   pub size-is : size ≡ sizeOfStretch (stretchOf t wanted)
   pub place-is : place ≡ placeOfStretch (stretchOf t wanted)
 
--- what the question returns: a number, 1 or 0 for "it can stand" or not, and a place
+-- what a refused question returns: a number, 0 for the answer, and a place
 pub record Told (number stands place : ℕ) (number′ stands′ place′ : ℕ) : Type 0 where
   pub number-is : number ≡ number′
   pub stands-is : stands ≡ stands′
   pub place-is : place ≡ place′
 
+-- the answer: 1 exactly where some setting meets the host rows and those of the selected requests, else 0
+pub record Stands (t : List ℕ) (f : Frame) (selection number stands place : ℕ) : Type 0 where
+  pub number-is : number ≡ 0
+  pub place-is : place ≡ 0
+  pub bit : stands ≤ 1
+  pub exactly : stands ≡ 1 ↔ SomeSettingMeets t f selection
+
 -- `hainscope_can_stand`: the table's own refusal, 11, or the answer
 pub record CanStandCall (t : List ℕ) (selection number stands place : ℕ) : Type 0 where
   pub refused : (r : Refusal) → reading t ≡ Refused r → Told number stands place (r .number) 0 (r .place)
   pub too-much : (f : Frame) → reading t ≡ Accepted f → namesAbove (f .requests) selection ≡ true → Told number stands place namesTooMuch 0 0
-  pub answered :
-      (f : Frame) → reading t ≡ Accepted f → namesAbove (f .requests) selection ≡ false → Told number stands place 0 (cond (canStand t f selection) 1 0) 0
+  pub answered : (f : Frame) → reading t ≡ Accepted f → namesAbove (f .requests) selection ≡ false → Stands t f selection number stands place
 
 -- the set of a conflict: the preferred one of Definition 7 where there is one to name (status 1), else none
 pub record ConflictSet (ok : Question) (n : ℕ) (answer : Answer) : Type 0 where

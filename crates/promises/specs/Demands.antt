@@ -19,7 +19,8 @@ use Rattle.preference.specs.Depth.{depths}
 use Rattle.explain.specs.declared.answers.Method.{Method}
 use Rattle.explain.specs.declared.answers.Method.the-variants.{ConflictByHalving, ConflictOneByOne, RelaxationByHalving, RelaxationOneByOne}
 use Rattle.explain.specs.Asking.{chosenBy}
-use Rattle.promises.specs.Selecting.{namesAbove, selectionOf, canStand}
+use Rattle.report.specs.Report.{statusAt, countAt, namedAt}
+use Rattle.promises.specs.Selecting.{namesAbove, selectionOf, SomeSettingMeets, canStand}
 use Rattle.promises.specs.Reports.{tableQuestion, roomFor}
 use Rattle.promises.specs.Calls.{ReadCall, BodyCall, CanStandCall, ReportCall, RightAnswer, Left, Told}
 
@@ -57,10 +58,11 @@ pub record AskedInPublic (t : List ℕ) (f : Frame) (selection : ℕ) : Type 0 w
   pub names : (request : ℕ) → 0 < request → request ≤ f .requests → chosenBy (orderOf t f) places request ≡ selectionOf (f .requests) selection request
   pub same-answer : tableQuestion t f places ≡ canStand t f selection
 
--- Demand 2, of an accepted table: every lent selection is among those that the methods choose from; all requests and the host rows alone are
+-- Demand 2, of an accepted table: a selection stands exactly where some setting meets it; every lent selection is among those that the methods choose from; all requests and the host rows alone are
 -- the selections 2^N - 1 and 0; halving and one by one give the same sets; there is no conflict exactly when all requests can stand
 -- together, and no relaxation exactly when the host's rows cannot; where there is one, the set is the preferred one.
 pub record TheSetsAreRight (t : List ℕ) (f : Frame) : Type 0 where
+  pub stands-exactly : (selection : ℕ) → canStand t f selection ≡ true ↔ SomeSettingMeets t f selection
   pub every-selection : (selection : ℕ) → AskedInPublic t f selection
   pub all-requests : tableQuestion t f (all (f .requests)) ≡ canStand t f (2 ^ f .requests - 1)
   pub host-alone : tableQuestion t f (none (f .requests)) ≡ canStand t f 0
@@ -113,7 +115,7 @@ ReportsTellNoMore =
     ReportCall method u buffer start n′ p′ a′ →
     Left n p a n′ p′ a′
 
--- The bound: the halving count of a report is at most 2 + 2kd, k the requests of the conflict, or those that the relaxation drops, and d from
+-- The bound: the halving count of an answer is at most 2 + 2kd, k the requests of the conflict, or those that the relaxation drops, and d from
 -- the list; with no relaxation it is at most 2.
 pub record TheCountIsBounded (t : List ℕ) (f : Frame) : Type 0 where
   pub conflict :
@@ -129,3 +131,25 @@ pub record TheCountIsBounded (t : List ℕ) (f : Frame) : Type 0 where
 
 abbrev pub EveryCountIsBounded : Type 0
 EveryCountIsBounded = (t : List ℕ) (f : Frame) → reading t ≡ Accepted f → TheCountIsBounded t f
+
+-- a fact about the bytes that every call of a method with room leaves in the buffer, from the start on
+abbrev pub OfEveryReport : Method → List ℕ → List ℕ → ℕ → (List ℕ → Type 0) → Type 0
+OfEveryReport method t buffer start Holds = (n p : ℕ) (a : List ℕ) → ReportCall method t buffer start n p a → Holds a
+
+-- The bound by the reports, with status, count and k as they stand in the bytes: a halving count is at most 2 + 2kd, k the requests that a
+-- conflict names, or those that a relaxation does not; with no relaxation it is at most 2; and one by one, where it has work to do, asks N + 2.
+pub record TheReportsAreBounded (t : List ℕ) (f : Frame) (buffer : List ℕ) (start : ℕ) : Type 0 where
+  pub conflict :
+      OfEveryReport ConflictByHalving t buffer start (λ a. countAt a start ≤ 2 + 2 * (namedAt a start * getD depths (f .requests) 0))
+  pub relaxation :
+      OfEveryReport RelaxationByHalving t buffer start
+      (λ a. countAt a start ≤ 2 + 2 * ((f .requests - namedAt a start) * getD depths (f .requests) 0))
+  pub no-relaxation : OfEveryReport RelaxationByHalving t buffer start (λ a. statusAt a start ≡ 2 → countAt a start ≤ 2)
+  pub conflict-one-by-one : OfEveryReport ConflictOneByOne t buffer start (λ a. statusAt a start ≡ 1 → countAt a start ≡ f .requests + 2)
+  pub relaxation-one-by-one : OfEveryReport RelaxationOneByOne t buffer start (λ a. statusAt a start ≡ 1 → countAt a start ≡ f .requests + 2)
+
+abbrev pub EveryReportIsBounded : Type 0
+EveryReportIsBounded =
+    (t : List ℕ) (f : Frame) → reading t ≡ Accepted f →
+    (buffer : List ℕ) (start : ℕ) → roomFor (f .requests) buffer start ≡ true →
+    TheReportsAreBounded t f buffer start

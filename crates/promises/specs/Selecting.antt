@@ -5,7 +5,8 @@ use mathlib.Core.List.{List, [], _∷_}
 use lib.Dec.{eqb}
 use Rattle.table.specs.declared.record.Frame.{Frame}
 use Rattle.table.specs.Kept.{rowsOf}
-use Rattle.meaning.specs.Stands.{stands, byRole}
+use Rattle.meaning.specs.Meaning.{Setting}
+use Rattle.meaning.specs.Stands.{stands, Meeting, byRole}
 
 -- the first n bits of a number, the lowest first
 unfoldable pub bits : ℕ → ℕ → List Bool
@@ -25,6 +26,10 @@ namesAbove n selection = not (eqb (above n selection) 0)
 abbrev pub selectionOf : ℕ → ℕ → ℕ → Bool
 selectionOf n selection = byRole (true ∷ bits n selection)
 
--- the selection can stand
+-- "It can stand if some setting meets all host rows and all rows of the selected requests": so the public question promises it
+abbrev pub SomeSettingMeets : List ℕ → Frame → ℕ → Type 0
+SomeSettingMeets t f selection = (setting : Setting) × Meeting (rowsOf t f) (f .variables) (selectionOf (f .requests) selection) setting
+
+-- the selection can stand, as a test over all settings; that the two are the same is proved (`TheSetsAreRight`)
 unfoldable pub canStand : List ℕ → Frame → ℕ → Bool
 canStand t f selection = stands (rowsOf t f) (f .variables) (selectionOf (f .requests) selection)

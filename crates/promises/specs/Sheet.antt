@@ -10,7 +10,8 @@ use Rattle.table.specs.declared.record.Frame.{Frame}
 use Rattle.table.specs.declared.reading.Reading.{Reading}
 use Rattle.table.specs.declared.reading.Reading.the-variants.{Accepted, Refused}
 use Rattle.table.specs.Reading.{reading}
-use Rattle.table.specs.Sheet.{tableA, tableB, tableC, tableD, tableE, tableF, tableG, tableH, tableI, tableJ, tableK}
+use Rattle.table.specs.Sheet.{tableA, tableB, tableC, tableD, tableE, tableF, tableG, tableH, tableI, tableJ, tableK, tableThree}
+use Rattle.table.specs.Samples.{frameH}
 use Rattle.preference.specs.Answer.{Answer}
 use Rattle.explain.specs.declared.answers.Method.{Method}
 use Rattle.explain.specs.declared.answers.Method.the-variants.{ConflictByHalving, ConflictOneByOne, RelaxationByHalving, RelaxationOneByOne}
@@ -127,9 +128,13 @@ rowJ = record { table = tableJ; conflict = says 1 2 (1 ∷ []); relaxation = say
 abbrev pub rowK : SheetRow
 rowK = record { table = tableK; conflict = says 1 2 (1 ∷ []); relaxation = says 1 2 []; count-one-by-one = 3 }
 
--- the rows, A to K
+-- three requests, which document 01 does not have: 1, 1 and 2 of a budget of 2 are wanted, order 1 2 3. A part of three is cut after the first.
+abbrev pub rowThree : SheetRow
+rowThree = record { table = tableThree; conflict = says 1 6 (1 ∷ 3 ∷ []); relaxation = says 1 4 (1 ∷ 2 ∷ []); count-one-by-one = 5 }
+
+-- the rows, A to K, and that of three requests
 abbrev pub sheet : List SheetRow
-sheet = rowA ∷ rowB ∷ rowC ∷ rowD ∷ rowE ∷ rowF ∷ rowG ∷ rowH ∷ rowI ∷ rowJ ∷ rowK ∷ []
+sheet = rowA ∷ rowB ∷ rowC ∷ rowD ∷ rowE ∷ rowF ∷ rowG ∷ rowH ∷ rowI ∷ rowJ ∷ rowK ∷ rowThree ∷ []
 
 -- H with its last byte DC
 abbrev pub damagedH : List ℕ
@@ -155,15 +160,12 @@ pub record ReportIs (method : Method) (t : List ℕ) (f : Frame) (after : List �
   pub bytes : bufferAfter method t f lentBuffer lentStart (answerIn t f method) ≡ after
   pub ends : placeAfter t f lentStart (answerIn t f method) ≡ end
 
--- V 4, N 4, five rows, ORDER at 74
-abbrev pub frameH : Frame
-frameH = record { variables = 4; requests = 4; rows = 5; order = 74 }
-
 -- V 0, N 1, one row, ORDER at 14
 abbrev pub frameC : Frame
 frameC = record { variables = 0; requests = 1; rows = 1; order = 14 }
 
--- three whole reports, each a record between bytes that stay; and a byte fewer than 12 + 2N is no room, though H's reports have 18 bytes
+-- three whole reports, each a record between bytes that stay; and the room for one, with N 4, 1 and 0: a byte fewer than 12 + 2N is none,
+-- though H's reports have 18 bytes
 pub record ReportsHold : Type 0 where
   pub conflict-H :
       ReportIs ConflictByHalving tableH frameH
@@ -185,11 +187,19 @@ pub record ReportsHold : Type 0 where
       14
   pub room-H : roomFor (frameH .requests) (take 22 lentBuffer) lentStart ≡ true
   pub no-room-H : roomFor (frameH .requests) (take 21 lentBuffer) lentStart ≡ false
+  pub room-C : roomFor (frameC .requests) (take 16 lentBuffer) lentStart ≡ true
+  pub no-room-C : roomFor (frameC .requests) (take 15 lentBuffer) lentStart ≡ false
+  pub room-A : roomFor 0 (take 14 lentBuffer) lentStart ≡ true
+  pub no-room-A : roomFor 0 (take 13 lentBuffer) lentStart ≡ false
 
--- what the public calls say of H, in document 01's numbers: requests 1, 2 and 4 can stand; 2, 3 and 4 cannot; request 5 is above N, refusal 11;
--- and a buffer that is a byte too short, refusal 12
+-- what the public calls say of H, in document 01's numbers: requests 1, 2 and 4 can stand; 2, 3 and 4 cannot, nor can 1, 2 and 3; request 5 is
+-- above N, refusal 11; and a buffer that is a byte too short, refusal 12. A selection read one bit off would be told by its answer: with
+-- request r at bit r, 7 were requests 1 and 2, and with request r at bit r-2, 14 were 3 and 4, and both of these can stand.
 pub record CallsHold : Type 0 where
   pub stand : CanStandCall tableH 11 0 1 0
   pub fall : CanStandCall tableH 14 0 0 0
+  pub fall-123 : CanStandCall tableH 7 0 0 0
+  pub stand-12 : CanStandCall tableH 3 0 1 0
+  pub stand-34 : CanStandCall tableH 12 0 1 0
   pub above-N : CanStandCall tableH 16 11 0 0
   pub short : ReportCall ConflictByHalving tableH (take 21 lentBuffer) lentStart 12 0 (take 21 lentBuffer)
