@@ -1,4 +1,4 @@
-//! Valid tables of an exact length in bytes or an exact number of rows,
+//! Valid tables of an exact length in bytes or an exact number of rows, or both,
 //! for the limits of 32,768 bytes and 512 rows.
 
 use crate::plan::{Plan, Row};
@@ -9,6 +9,8 @@ const LONGEST_CLAUSE: usize = 134;
 const LONGEST_LINEAR: usize = 130;
 /// The bytes of a clause without literals.
 const SHORTEST_CLAUSE: usize = 6;
+/// The most literals of a clause.
+const MOST_LITERALS: usize = 64;
 
 /// A plan whose table has exactly this even number of bytes, with 20 variables and 64 requests.
 pub fn of_bytes(random: &mut Random, bytes: usize) -> Plan {
@@ -51,4 +53,22 @@ pub fn of_rows(random: &mut Random, rows: usize) -> Plan {
         });
     }
     plan
+}
+
+/// A plan that says the same in exactly this many rows and this even number of bytes: its rows are
+/// repeated, then the literals of its clauses, which must be able to take so many bytes.
+pub fn filled(random: &mut Random, plan: &Plan, rows: usize, bytes: usize) -> Plan {
+    let mut filled = plan.clone();
+    filled.rows = plan.rows.iter().cycle().take(rows).cloned().collect();
+    random.shuffle(&mut filled.rows);
+    let mut left = (bytes - filled.table().len()) / 2;
+    for row in &mut filled.rows {
+        if let Row::Clause(_, literals) = row {
+            while left > 0 && (1..MOST_LITERALS).contains(&literals.len()) {
+                literals.push(random.pick(literals));
+                left -= 1;
+            }
+        }
+    }
+    filled
 }

@@ -3,6 +3,8 @@
 use made::draft::mended;
 use made::events::{any, SMALL};
 use made::full;
+use made::plan::{Plan, Row};
+use made::planted::planted;
 use made::random::Random;
 use made::stream::made;
 use made::twins::twin;
@@ -35,6 +37,26 @@ fn full_tables_have_the_length_asked_for() {
         assert!(plan.rows.len() <= 512);
     }
     assert_eq!(full::of_rows(&mut Random::new(1), 512).rows.len(), 512);
+}
+
+/// The clauses of a plan, each once: role and literals, each of these once.
+fn clauses(plan: &Plan) -> BTreeSet<(u16, BTreeSet<u16>)> {
+    let clause = |row: &Row| match row {
+        Row::Clause(role, literals) => Some((*role, literals.iter().copied().collect())),
+        Row::Linear(..) => None,
+    };
+    plan.rows.iter().filter_map(clause).collect()
+}
+
+#[test]
+fn filled_plans_have_the_rows_and_bytes_asked_for_and_say_the_same() {
+    for (seed, rows, bytes) in [(1, 512, 32_768), (2, 513, 32_770), (3, 200, 10_000)] {
+        let mut random = Random::new(seed);
+        let (plan, _) = planted(&mut random, 20, 64, 40);
+        let filled = full::filled(&mut random, &plan, rows, bytes);
+        assert_eq!((filled.rows.len(), filled.table().len()), (rows, bytes));
+        assert_eq!(clauses(&filled), clauses(&plan));
+    }
 }
 
 #[test]
