@@ -17,7 +17,7 @@ use Rattle.explain.specs.declared.answers.Method.{Method}
 use Rattle.explain.specs.declared.answers.Method.the-variants.{ConflictByHalving, ConflictOneByOne, RelaxationByHalving, RelaxationOneByOne}
 use Rattle.explain.specs.Methods.{answerBy}
 use Rattle.promises.specs.Reports.{tableQuestion, roomFor, numbersOf, placeAfter, bufferAfter}
-use Rattle.promises.specs.Calls.{CanStandCall, ReportCall}
+use Rattle.promises.specs.Calls.{ReadCall, BodyCall, CanStandCall, ReportCall}
 
 -- what one method answers: status, how many questions it asked, and the request numbers of its set in the order's order
 pub record Line : Type 0 where
@@ -192,10 +192,18 @@ pub record ReportsHold : Type 0 where
   pub room-A : roomFor 0 (take 14 lentBuffer) lentStart ≡ true
   pub no-room-A : roomFor 0 (take 13 lentBuffer) lentStart ≡ false
 
--- what the public calls say of H, in document 01's numbers: requests 1, 2 and 4 can stand; 2, 3 and 4 cannot, nor can 1, 2 and 3; request 5 is
+-- what the public calls say of H, and of H damaged, in document 01's numbers: it is accepted, and refused with 9 at CHECK's first byte by every
+-- call; record 6, the ORDER, has its eight bytes from 78 on, and there is no record 8, refusal 13 at the table's length; requests 1, 2 and 4 can stand; 2, 3 and 4 cannot, nor can 1, 2 and 3; request 5 is
 -- above N, refusal 11; and a buffer that is a byte too short, refusal 12. A selection read one bit off would be told by its answer: with
 -- request r at bit r, 7 were requests 1 and 2, and with request r at bit r-2, 14 were 3 and 4, and both of these can stand.
 pub record CallsHold : Type 0 where
+  pub accepted : ReadCall tableH 0 0
+  pub damaged : ReadCall damagedH 9 86
+  pub body : BodyCall tableH 6 0 8 78
+  pub no-record : BodyCall tableH 8 13 0 92
+  pub damaged-body : BodyCall damagedH 6 9 0 86
+  pub damaged-question : CanStandCall damagedH 11 9 0 86
+  pub damaged-report : ReportCall ConflictByHalving damagedH lentBuffer lentStart 9 86 lentBuffer
   pub stand : CanStandCall tableH 11 0 1 0
   pub fall : CanStandCall tableH 14 0 0 0
   pub fall-123 : CanStandCall tableH 7 0 0 0

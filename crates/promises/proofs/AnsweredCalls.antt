@@ -6,7 +6,8 @@ use Rattle.table.specs.Kinds.{kindOf, isKnown, isHead}
 use Rattle.table.specs.Rows.{termAt, terms, clauseAt, linearAt, rowOf, rows}
 use Rattle.table.specs.Limits.{within, termInRange, rowInRange}
 use Rattle.table.specs.Tests.{isWhole, headFirst, inSequence, roomForRow, lengthRight, inRange, noRepeat, addsToZero, nextPhase, nextFrame}
-use Rattle.table.specs.Reading.{ruleOf, stepAt, endingOf, scan, reading}
+use Rattle.table.specs.Reading.{ruleOf, stepAt, endingOf, scan, reading, numberOfReading, placeOfReading}
+use Rattle.table.specs.Body.{placeOfRecord, stretchAt, stretchBy, numberOfStretch, placeOfStretch, sizeOfStretch}
 use Rattle.meaning.specs.Meaning.{isTrue, anyOf, valueOf, product, sumOf, meets, roleOf, counts, respects, meetsAll}
 use Rattle.meaning.specs.Stands.{someSetting, stands}
 use Rattle.preference.specs.Selection.{all, none}
@@ -24,15 +25,22 @@ use Rattle.promises.specs.Reports.{kindBy, roomFor}
 use lib.ListN.{take}
 use Rattle.explain.specs.declared.answers.Method.the-variants.{ConflictByHalving}
 use Rattle.promises.specs.Selecting.{bits, above, namesAbove, canStand}
-use Rattle.promises.specs.Sheet.{CallsHold, lentBuffer, lentStart}
+use Rattle.promises.specs.Sheet.{CallsHold, damagedH, lentBuffer, lentStart}
 use Rattle.table.specs.Sheet.{tableH}
 use Rattle.table.specs.Samples.{frameH}
-use Rattle.promises.proofs.Outcomes.{can-stand-answered, can-stand-too-much, report-no-room}
+use Rattle.promises.proofs.Outcomes.{can-stand-refused, can-stand-answered, can-stand-too-much, report-refused, report-no-room}
 
 pub calls-hold : CallsHold
-unfolding u16At u32At i32At words total every among allDifferent kindOf isKnown isHead termAt terms clauseAt linearAt rowOf rows within termInRange rowInRange isWhole headFirst inSequence roomForRow lengthRight inRange noRepeat addsToZero nextPhase nextFrame ruleOf stepAt endingOf scan reading isTrue anyOf valueOf product sumOf meets roleOf counts respects meetsAll someSetting stands all none named entered oneConflict oneRelax size treeOf halveConflict enterConflict halveRelax enterRelax answered chosenBy questionOf answerBy u16 u32 recordOf encodeNumbers reportBody reportBytes kindBy roomFor bits above namesAbove canStand
+unfolding u16At u32At i32At words total every among allDifferent kindOf isKnown isHead termAt terms clauseAt linearAt rowOf rows within termInRange rowInRange isWhole headFirst inSequence roomForRow lengthRight inRange noRepeat addsToZero nextPhase nextFrame ruleOf stepAt endingOf scan reading numberOfReading placeOfReading placeOfRecord stretchAt stretchBy numberOfStretch placeOfStretch sizeOfStretch isTrue anyOf valueOf product sumOf meets roleOf counts respects meetsAll someSetting stands all none named entered oneConflict oneRelax size treeOf halveConflict enterConflict halveRelax enterRelax answered chosenBy questionOf answerBy u16 u32 recordOf encodeNumbers reportBody reportBytes kindBy roomFor bits above namesAbove canStand
 calls-hold =
     record {
+      accepted = record { number-is = refl; place-is = refl };
+      damaged = record { number-is = refl; place-is = refl };
+      body = record { number-is = refl; size-is = refl; place-is = refl };
+      no-record = record { number-is = refl; size-is = refl; place-is = refl };
+      damaged-body = record { number-is = refl; size-is = refl; place-is = refl };
+      damaged-question = can-stand-refused damagedH 11 (record { number = 9; place = 86 }) refl;
+      damaged-report = report-refused ConflictByHalving damagedH lentBuffer lentStart (record { number = 9; place = 86 }) refl;
       stand = can-stand-answered tableH 11 frameH refl refl;
       fall = can-stand-answered tableH 14 frameH refl refl;
       fall-123 = can-stand-answered tableH 7 frameH refl refl;
