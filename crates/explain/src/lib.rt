@@ -4,7 +4,7 @@
 // `chosen` and `places` are lent from the top of a call for the questions to work on, so that they stand on the stack
 // once; what they hold between two questions does not matter.
 pub mod answers;
-pub mod asking;
-pub mod flags;
-pub mod halving;
-pub mod one_by_one;
+mod asking;
+mod flags;
+mod halving;
+mod one_by_one;

@@ -2,14 +2,14 @@
 // the place that document 01 fixes. The definitions that the contracts cite stand in specs/; read
 // specs/Lib.antt first.
 pub mod body;
-pub mod check;
+mod check;
 pub mod limits;
-pub mod order;
-pub mod ranges;
+mod order;
+mod ranges;
 pub mod reading;
 pub mod record;
 pub mod refusals;
-pub mod rows;
-pub mod rules;
-pub mod sequence;
+mod rows;
+mod rules;
+mod sequence;
 pub mod words;
