@@ -14,7 +14,13 @@ pub none-chosen : (values : Values) → Chosen values 0 (length values)
 none-chosen values = record { most = omega arith; free = λ h. absurd (omega arith); none-free = λ h other below. absurd (omega arith) }
 
 -- what holds below, and at the next, holds below the one after it
-one-further : (values : Values) (next : ℕ) → ((other : ℕ) → other < next → isFree values other ≡ false) → isFree values next ≡ false → (other : ℕ) → other < next + 1 → isFree values other ≡ false
+one-further :
+    (values : Values) (next : ℕ) →
+    ((other : ℕ) → other < next → isFree values other ≡ false) →
+    isFree values next ≡ false →
+    (other : ℕ) →
+    other < next + 1 →
+    isFree values other ≡ false
 one-further values next below here other h = go (ltb other next) refl
   where
     go : (less : Bool) → ltb other next ≡ less → isFree values other ≡ false
@@ -41,4 +47,5 @@ now-best values next h free = record { most = omega arith; free = λ _. free; no
 
 -- all are looked at
 pub chosen-all : (values : Values) (next best : ℕ) → length values ≤ next → Chosen values next best → Chosen values (length values) best
-chosen-all values next best h chosen = record { most = chosen .most; free = chosen .free; none-free = λ none other below. chosen .none-free none other (omega arith) }
+chosen-all values next best h chosen =
+    record { most = chosen .most; free = chosen .free; none-free = λ none other below. chosen .none-free none other (omega arith) }

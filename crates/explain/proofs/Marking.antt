@@ -43,7 +43,8 @@ swap true false c = refl
 swap false true c = refl
 swap false false c = refl
 
-set-reads : (chosen : List Bool) (request role : ℕ) → request < length chosen → getD (set chosen request true) role false ≡ (eqb role request || getD chosen role false)
+set-reads :
+    (chosen : List Bool) (request role : ℕ) → request < length chosen → getD (set chosen request true) role false ≡ (eqb role request || getD chosen role false)
 set-reads chosen request role h = by (eqb role request) refl
   where
     by : (same : Bool) → eqb role request ≡ same → getD (set chosen request true) role false ≡ (eqb role request || getD chosen role false)

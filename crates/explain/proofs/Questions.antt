@@ -60,7 +60,8 @@ module _ (t : List ℕ) (f : Frame) (order : List ℕ) (X : Selection) (lent : L
     unfolding questionOf chosenBy
     same-question told h =
         h ∙ same-on-table (byRole marks) (chosenBy order X) t f (lent .kept)
-        (λ role more most. reads role ∙ rw (getD-set-other nobody 0 role true false (λ z. omega arith), no-flag (mostRequests + 1) role) (or-false (among role (named order X))))
+        (λ role more most. reads role
+        ∙ rw (getD-set-other nobody 0 role true false (λ z. omega arith), no-flag (mostRequests + 1) role) (or-false (among role (named order X))))
 
 -- other flags in the same places may be asked too
 pub relent : {t : List ℕ} {f : Frame} {order : List ℕ} {X : Selection} (Y : Selection) → Lent t f order X → length Y ≡ length X → Lent t f order Y

@@ -89,7 +89,8 @@ fn work(
     places: &mut [u16; MOST_ROWS],
 ) -> usize
     requires { ⌜ Lent (now table) frame (now order) (now flags) × (now flags ≡ none (length (now flags))) × (0 < length (now flags)) ⌝ }
-    ensures { λ r. ⌜ Worked (workedBy method (questionOf (now (table .entry)) frame (now (order .entry))) (length (now (flags .entry)))) (now (flags .exit)) r ⌝ }
+    ensures { λ r. ⌜ Worked (workedBy method (questionOf (now (table .entry)) frame (now (order .entry))) (length (now (flags .entry))))
+        (now (flags .exit)) r ⌝ }
 {
     let count = flags.len();
     match method {
@@ -137,7 +138,8 @@ pub fn answer(
     places: &mut [u16; MOST_ROWS],
 ) -> Outcome
     requires { ⌜ Lent (now table) frame (now order) (now flags) ⌝ }
-    ensures { λ r. ⌜ Answers (answerBy method (questionOf (now (table .entry)) frame (now (order .entry))) (length (now (flags .entry)))) (length (now (flags .entry))) (now (flags .exit)) (r .status) (r .asked) ⌝ }
+    ensures { λ r. ⌜ Answers (answerBy method (questionOf (now (table .entry)) frame (now (order .entry))) (length (now (flags .entry))))
+        (length (now (flags .entry))) (now (flags .exit)) (r .status) (r .asked) ⌝ }
 {
     let begun = begin(table, frame, order, flags, chosen, places);
     match begun {

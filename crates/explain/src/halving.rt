@@ -55,7 +55,8 @@ pub fn halve_conflict(
     asking: bool,
 ) -> Worked
     requires { ⌜ Lent (now table) frame (now order) (now flags) × InGround from count (now flags) ⌝ }
-    ensures { λ r. ⌜ ConflictWorked (questionOf (now (table .entry)) frame (now (order .entry))) from count asking (now (flags .entry)) (now (flags .exit)) (r .found) (r .asked) ⌝ }
+    ensures { λ r. ⌜ ConflictWorked (questionOf (now (table .entry)) frame (now (order .entry))) from count asking
+        (now (flags .entry)) (now (flags .exit)) (r .found) (r .asked) ⌝ }
 {
     if ground_fails(table, frame, order, flags, chosen, places, asking) {
         return Worked { found: 0, asked: 1 };
@@ -120,7 +121,8 @@ pub fn halve_relaxation(
     asking: bool,
 ) -> Worked
     requires { ⌜ Lent (now table) frame (now order) (now flags) × OutOfGround from count (now flags) ⌝ }
-    ensures { λ r. ⌜ RelaxationWorked (questionOf (now (table .entry)) frame (now (order .entry))) from count asking (now (flags .entry)) (now (flags .exit)) (r .found) (r .asked) ⌝ }
+    ensures { λ r. ⌜ RelaxationWorked (questionOf (now (table .entry)) frame (now (order .entry))) from count asking
+        (now (flags .entry)) (now (flags .exit)) (r .found) (r .asked) ⌝ }
 {
     if stands_whole(
         table,

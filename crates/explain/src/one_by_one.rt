@@ -21,7 +21,8 @@ pub fn remove_one_by_one(
     places: &mut [u16; MOST_ROWS],
 ) -> usize
     requires { ⌜ Lent (now table) frame (now order) (now flags) ⌝ }
-    ensures { λ r. ⌜ Worked (oneConflict (questionOf (now (table .entry)) frame (now (order .entry))) (length (now (flags .entry))) []) (now (flags .exit)) r ⌝ }
+    ensures { λ r. ⌜ Worked (oneConflict (questionOf (now (table .entry)) frame (now (order .entry))) (length (now (flags .entry))) [])
+        (now (flags .exit)) r ⌝ }
 {
     let count = flags.len();
     fill(flags, 0, count, true);

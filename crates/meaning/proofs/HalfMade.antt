@@ -43,10 +43,19 @@ free-below values none other = go (ltb other (length values)) refl
     go false p = none-beyond values other (ltb-false other (length values) p)
 
 -- where none is decided, every setting of that length agrees
-pub free-agrees : (values : Values) (setting : Setting) → length setting ≡ length values → ((other : ℕ) → other < length values → getD values other 0 ≡ 2) → Agrees values setting
+pub free-agrees :
+    (values : Values) (setting : Setting) →
+    length setting ≡ length values →
+    ((other : ℕ) → other < length values → getD values other 0 ≡ 2) →
+    Agrees values setting
 free-agrees values setting h free = record { each = h; decided = λ variable decided. go variable decided (ltb variable (length values)) refl }
   where
-    go : (variable : ℕ) → isFree values variable ≡ false → (less : Bool) → ltb variable (length values) ≡ less → getD setting variable false ≡ isSet values variable
+    go :
+        (variable : ℕ) →
+        isFree values variable ≡ false →
+        (less : Bool) →
+        ltb variable (length values) ≡ less →
+        getD setting variable false ≡ isSet values variable
     go variable decided true p =
         let e : getD values variable 0 ≡ 2 = free variable (ltb-true variable (length values) p) in
         absurd (true≢false (rw e at decided))
@@ -85,17 +94,24 @@ undecided-changed (x ∷ more) zero value = omega (arith, one-at-most (eqb value
 undecided-changed (x ∷ more) (suc variable) value = omega (arith, undecided-changed more variable value)
 
 -- as many where a decided variable is given another value
-pub undecided-turned : (values : Values) (variable value : ℕ) → getD values variable 0 ≤ 1 → value ≤ 1 → undecided (set values variable value) ≡ undecided values
+pub undecided-turned :
+    (values : Values) (variable value : ℕ) → getD values variable 0 ≤ 1 → value ≤ 1 → undecided (set values variable value) ≡ undecided values
 unfolding undecided
 undecided-turned [] variable value old new = refl
 undecided-turned (x ∷ more) zero value old new = rw (ne-eqb value 2 (λ e. omega arith), ne-eqb x 2 (λ e. omega arith))
 undecided-turned (x ∷ more) (suc variable) value old new = rw (undecided-turned more variable value old new)
 
 -- a setting has the decided values also where one is taken back
-pub agrees-freed : (values : Values) (variable : ℕ) (setting : Setting) → variable < length values → Agrees values setting → Agrees (set values variable 2) setting
+pub agrees-freed :
+    (values : Values) (variable : ℕ) (setting : Setting) → variable < length values → Agrees values setting → Agrees (set values variable 2) setting
 agrees-freed values variable setting inside agrees = record { each = simp length-set (agrees .each); decided = λ other h. go other h (eqb other variable) refl }
   where
-    go : (other : ℕ) → isFree (set values variable 2) other ≡ false → (here : Bool) → eqb other variable ≡ here → getD setting other false ≡ isSet (set values variable 2) other
+    go :
+        (other : ℕ) →
+        isFree (set values variable 2) other ≡ false →
+        (here : Bool) →
+        eqb other variable ≡ here →
+        getD setting other false ≡ isSet (set values variable 2) other
     go other h true p =
         let s : other ≡ variable = eqb-true other variable p in
         absurd (true≢false (rw (s, getD-set-same values variable 2 0 inside) at h))
@@ -120,15 +136,22 @@ module _ (values : Values) (variable : ℕ) (inside : variable < length values) 
       }
 
   -- one that gives the variable this value has one decided value more
-  pub agrees-with : (value : ℕ) (setting : Setting) → Agrees values setting → getD setting variable false ≡ eqb value 1 → Agrees (set values variable value) setting
+  pub agrees-with :
+      (value : ℕ) (setting : Setting) → Agrees values setting → getD setting variable false ≡ eqb value 1 → Agrees (set values variable value) setting
   agrees-with value setting agrees e = record { each = simp length-set (agrees .each); decided = λ other h. go other h (eqb other variable) refl }
     where
-      go : (other : ℕ) → isFree (set values variable value) other ≡ false → (here : Bool) → eqb other variable ≡ here → getD setting other false ≡ isSet (set values variable value) other
+      go :
+          (other : ℕ) →
+          isFree (set values variable value) other ≡ false →
+          (here : Bool) →
+          eqb other variable ≡ here →
+          getD setting other false ≡ isSet (set values variable value) other
       go other h true p =
           let s : other ≡ variable = eqb-true other variable p in
           rw (s, getD-set-same values variable value 0 inside) e
       go other h false p =
-          let same : getD (set values variable value) other 0 ≡ getD values other 0 = getD-set-other values variable other value 0 (eqb-false other variable p) in
+          let same : getD (set values variable value) other 0 ≡ getD values other 0 =
+          getD-set-other values variable other value 0 (eqb-false other variable p) in
           rw same (agrees .decided other (rw same at h))
 
   -- the variable is made free again

@@ -46,7 +46,10 @@ module _ (values : Values) (setting : Setting) (agrees : Agrees values setting) 
   unfolding mayBeTrue isDecidedTrue isTrue
   true-may-be literal e = go (isFree values (literal / 2)) refl
     where
-      go : (free : Bool) → isFree values (literal / 2) ≡ free → (free || cond (eqb (literal % 2) 0) (isSet values (literal / 2)) (not (isSet values (literal / 2)))) ≡ true
+      go :
+          (free : Bool) →
+          isFree values (literal / 2) ≡ free →
+          (free || cond (eqb (literal % 2) 0) (isSet values (literal / 2)) (not (isSet values (literal / 2)))) ≡ true
       go true p = refl
       go false p = rw (← agrees .decided (literal / 2) p) e
 
@@ -63,14 +66,20 @@ module _ (values : Values) (setting : Setting) (agrees : Agrees values setting) 
       go false p f = rw (agrees .decided (literal / 2) p) f
 
   -- a term at one end, and the same term as the setting has it
-  between : (side : ℤ → ℤ) (P : ℤ → ℤ → Type 0) → ((x : ℤ) → P x x) → ((weight : ℤ) (value : Bool) → P (side weight) (cond value weight (pos 0))) → (term : Term) → P (atEnd side values term) (product setting term)
+  between :
+      (side : ℤ → ℤ) (P : ℤ → ℤ → Type 0) →
+      ((x : ℤ) → P x x) →
+      ((weight : ℤ) (value : Bool) → P (side weight) (cond value weight (pos 0))) →
+      (term : Term) →
+      P (atEnd side values term) (product setting term)
   unfolding atEnd
   between side P same free term = rw (product-is setting term) (go (isFree values (term .variable)) refl)
     where
       go :
           (undecided : Bool) →
           isFree values (term .variable) ≡ undecided →
-          P (cond undecided (side (term .weight)) (cond (isSet values (term .variable)) (term .weight) (pos 0))) (cond (isOne setting (term .variable)) (term .weight) (pos 0))
+          P (cond undecided (side (term .weight)) (cond (isSet values (term .variable)) (term .weight) (pos 0)))
+          (cond (isOne setting (term .variable)) (term .weight) (pos 0))
       go true p = free (term .weight) (isOne setting (term .variable))
       go false p = rw (agrees .decided (term .variable) p) (same (cond (isSet values (term .variable)) (term .weight) (pos 0)))
 
@@ -121,6 +130,7 @@ module _ (values : Values) (setting : Setting) (agrees : Agrees values setting) 
     pub decided-meets : (row : Row) → rowState values row ≤ 1 → meets setting row ≡ true
     unfolding rowState clauseState linearState meets
     decided-meets (clause role literals) =
-        otherwise-holds _ _ _ (any-more (mayBeTrue values) (isTrue setting) may-be-true literals) (any-more (mustBeTrue values) (isTrue setting) must-be-true literals)
+        otherwise-holds _ _ _ (any-more (mayBeTrue values) (isTrue setting) may-be-true literals)
+        (any-more (mustBeTrue values) (isTrue setting) must-be-true literals)
     decided-meets (linear role bound ts) =
         otherwise-holds _ _ _ (λ e. rw (sum-exact ts) at e) (le-le (sumOf setting ts) (sumAtEnd positiveOf values ts) bound (most-sum ts))

@@ -64,7 +64,10 @@ module _ (bits : ℕ) (fits : bits < 4294967296) where
   unfolding negativeOf
   negative-side = by-sign (ltb bits 2147483648) refl
     where
-      by-sign : (low : Bool) → ltb bits 2147483648 ≡ low → (toZ w32 (bits * (bits / 2147483648)) ≡ negativeOf (toZ w32 bits)) × (bits * (bits / 2147483648) < 4294967296)
+      by-sign :
+          (low : Bool) →
+          ltb bits 2147483648 ≡ low →
+          (toZ w32 (bits * (bits / 2147483648)) ≡ negativeOf (toZ w32 bits)) × (bits * (bits / 2147483648) < 4294967296)
       by-sign true p =
           let h : bits < 2147483648 = ltb-true bits 2147483648 p in
           let q : bits / 2147483648 ≡ 0 = omega arith in
@@ -78,7 +81,10 @@ module _ (bits : ℕ) (fits : bits < 4294967296) where
   unfolding positiveOf
   positive-side = by-sign (ltb bits 2147483648) refl
     where
-      by-sign : (low : Bool) → ltb bits 2147483648 ≡ low → (toZ w32 (bits * (1 - bits / 2147483648)) ≡ positiveOf (toZ w32 bits)) × (bits * (1 - bits / 2147483648) < 4294967296)
+      by-sign :
+          (low : Bool) →
+          ltb bits 2147483648 ≡ low →
+          (toZ w32 (bits * (1 - bits / 2147483648)) ≡ positiveOf (toZ w32 bits)) × (bits * (1 - bits / 2147483648) < 4294967296)
       by-sign true p =
           let h : bits < 2147483648 = ltb-true bits 2147483648 p in
           let q : 1 - bits / 2147483648 ≡ 1 = omega arith in
@@ -114,7 +120,11 @@ module _ (values : Values) (t : List ℕ) (at : ℕ) where
   unfolding sumAtEnd terms
   one-end side = +ℤ-idr (atEnd side values (termAt t at))
 
-  told-once : (side : ℤ → ℤ) (bits end : ℕ) → toZ w32 bits ≡ atEnd side values (termAt t at) → pos end ≡ toZ w32 bits +ℤ pos 2147483648 → pos end ≡ sumAtEnd side values (terms 1 t at) +ℤ pos 2147483648
+  told-once :
+      (side : ℤ → ℤ) (bits end : ℕ) →
+      toZ w32 bits ≡ atEnd side values (termAt t at) →
+      pos end ≡ toZ w32 bits +ℤ pos 2147483648 →
+      pos end ≡ sumAtEnd side values (terms 1 t at) +ℤ pos 2147483648
   told-once side bits end e f = rw (one-end side, ← e) f
 
   pub term-told :
@@ -125,7 +135,11 @@ module _ (values : Values) (t : List ℕ) (at : ℕ) where
       (pos most ≡ toZ w32 most-bits +ℤ pos 2147483648) × (most < 4294967296) →
       EndsTold values (terms 1 t at) 1 least most
   term-told least-bits most-bits least most e f g h =
-      record { least-told = told-once negativeOf least-bits least e (f .0); most-told = told-once positiveOf most-bits most g (h .0); small = (omega (arith, f .1), omega (arith, h .1)) }
+      record {
+        least-told = told-once negativeOf least-bits least e (f .0);
+        most-told = told-once positiveOf most-bits most g (h .0);
+        small = (omega (arith, f .1), omega (arith, h .1));
+      }
 
   -- and back
   module _ (least most : ℕ) (told : EndsTold values (terms 1 t at) 1 least most) where
@@ -183,7 +197,11 @@ module _ (side : ℤ → ℤ) (values : Values) (t : List ℕ) (from count : ℕ
       }
 
   -- no term is left: the sum is whole
-  pub summed-end : (at left total : ℕ) → left ≤ 0 → Summed side values t from count at left total → pos total ≡ sumAtEnd side values (terms count t from) +ℤ pos (2147483648 * count)
+  pub summed-end :
+      (at left total : ℕ) →
+      left ≤ 0 →
+      Summed side values t from count at left total →
+      pos total ≡ sumAtEnd side values (terms count t from) +ℤ pos (2147483648 * count)
   unfolding sumAtEnd terms
   summed-end at zero total h s =
       let whole : s .so-far ≡ sumAtEnd side values (terms count t from) = sym (+ℤ-idr (s .so-far)) ∙ s .rest in
@@ -200,10 +218,12 @@ pub compared :
 compared sum bound total highest count e f =
     let turned : 2147483648 * count + highest ≡ highest + 2147483648 * count = omega arith in
     rw (← turned)
-    (sym (diff-le sum bound total (2147483648 * count) highest 2147483648 (diff-raised sum total (2147483648 * count) e) (diff-raised bound highest 2147483648 f)))
+    (sym (diff-le sum bound total (2147483648 * count) highest 2147483648
+    (diff-raised sum total (2147483648 * count) e) (diff-raised bound highest 2147483648 f)))
 
 -- each way out of the test of a linear row
-module _ (values : Values) (bound : ℤ) (row-terms : List Term) (count least most highest : ℕ) (told : EndsTold values row-terms count least most) (raised : pos highest ≡ bound +ℤ pos 2147483648) where
+module _ (values : Values) (bound : ℤ) (row-terms : List Term) (count least most highest : ℕ)
+    (told : EndsTold values row-terms count least most) (raised : pos highest ≡ bound +ℤ pos 2147483648) where
   most-at-most : leb (most + 2147483648) (highest + 2147483648 * count) ≡ leZ (sumAtEnd positiveOf values row-terms) bound
   most-at-most = compared (sumAtEnd positiveOf values row-terms) bound most highest count (told .most-told) raised
 
@@ -214,10 +234,12 @@ module _ (values : Values) (bound : ℤ) (row-terms : List Term) (count least mo
   unfolding linearState
   linear-always within = state-always _ _ (sym most-at-most ∙ le-leb _ _ within)
 
-  pub linear-open : highest + 2147483648 * count < most + 2147483648 → least + 2147483648 ≤ highest + 2147483648 * count → 1 ≡ linearState values bound row-terms
+  pub linear-open :
+      highest + 2147483648 * count < most + 2147483648 → least + 2147483648 ≤ highest + 2147483648 * count → 1 ≡ linearState values bound row-terms
   unfolding linearState
   linear-open beyond within = state-open _ _ (sym least-at-most ∙ le-leb _ _ within) (sym most-at-most ∙ lt-leb _ _ beyond)
 
-  pub linear-never : highest + 2147483648 * count < most + 2147483648 → highest + 2147483648 * count < least + 2147483648 → 2 ≡ linearState values bound row-terms
+  pub linear-never :
+      highest + 2147483648 * count < most + 2147483648 → highest + 2147483648 * count < least + 2147483648 → 2 ≡ linearState values bound row-terms
   unfolding linearState
   linear-never beyond least-beyond = state-never _ _ (sym least-at-most ∙ lt-leb _ _ least-beyond) (sym most-at-most ∙ lt-leb _ _ beyond)

@@ -137,7 +137,8 @@ module _ (ok : Question) where
       rw f
       (the-ground-is-asked addition (front ++ (none (size c1 + size c2) ++ S)) (size c1 + size c2) first S _ _ e
       (ap (λ p. together p (halveConflict ok c1 before (ltb 0 (p .found)) (p .set)))
-      (working-a-conflict c2 (before + size c1) true (all (size c1)) (front ++ all (size c1)) S some (all-add before (size c1) ∙ ap (λ F. F ++ all (size c1)) f))
+      (working-a-conflict c2 (before + size c1) true (all (size c1)) (front ++ all (size c1)) S some
+      (all-add before (size c1) ∙ ap (λ F. F ++ all (size c1)) f))
       ∙ ap (λ p. together (conflictPart second S) p) (working-a-conflict c1 before (notEmpty d2) d2 front (d2 ++ S) refl f)
       ∙ conflict-in-turn S second (λ D. workConflict c1 D front (D ++ S))))
 

@@ -23,7 +23,8 @@ pub record SameAnswer (a b : Answer) : Type 0 where
   pub set : a .set ≡ b .set
 
 -- "Both methods, for conflict and relaxation, start so: ask all requests; if they can stand, stop (1 question). If N = 0, stop (1).
--- Ask the host rows alone, also when there are none; if they cannot stand, stop (2)." `whole` is the set where all can stand, and `worked` what the method finds.
+-- Ask the host rows alone, also when there are none; if they cannot stand, stop (2)."
+-- `whole` is the set where all can stand, and `worked` what the method finds.
 unfoldable pub answered : (ok : Question) (n : ℕ) (whole : Selection) (worked : Part) → Answer
 answered ok n whole worked =
     cond (ok (all n)) (record { status = 0; set = whole; asked = 1 })

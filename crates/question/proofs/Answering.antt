@@ -48,7 +48,8 @@ module _ (t : List ℕ) (f : Frame) (chosen : List Bool) (places : List ℕ) (no
               (every-at (λ place. meets setting (rowAt t place)) (take noted places) 0 i (same-met ∙ met) (omega (arith, long-enough)));
         }
 
-  pub rows-searched : (values : Values) (answer : Bool) → Completed (MeetsFirst t places noted) values answer → Completed (MeetsCounting t f chosen) values answer
+  pub rows-searched :
+      (values : Values) (answer : Bool) → Completed (MeetsFirst t places noted) values answer → Completed (MeetsCounting t f chosen) values answer
   rows-searched values answer searched =
       record {
         found = λ good. passing-too (λ setting _. all-met setting) (searched .found good);
@@ -56,7 +57,8 @@ module _ (t : List ℕ) (f : Frame) (chosen : List Bool) (places : List ℕ) (no
       }
 
 -- from no decided variable on it answers the question
-module _ (t : List ℕ) (f : Frame) (chosen : List Bool) (values : Values) (answer : Bool) (long : length values ≡ f .variables) (free : (other : ℕ) → other < length values → getD values other 0 ≡ 2) (done : Completed (MeetsCounting t f chosen) values answer) where
+module _ (t : List ℕ) (f : Frame) (chosen : List Bool) (values : Values) (answer : Bool) (long : length values ≡ f .variables)
+    (free : (other : ℕ) → other < length values → getD values other 0 ≡ 2) (done : Completed (MeetsCounting t f chosen) values answer) where
   yes-stands : answer ≡ true → stands (rowsOf t f) (f .variables) (byRole chosen) ≡ true
   yes-stands e =
       let found : Completion (MeetsCounting t f chosen) values = done .found e in

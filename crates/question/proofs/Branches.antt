@@ -62,7 +62,8 @@ module _ (t start : List ℕ) (noted : ℕ) (base : Values) where
   -- the decisions lead from the values at the start to these
   unfoldable pub Trail : List ℕ → List Decided → ℕ → Values → Type 0
   Trail places [] count values = values ≡ base
-  Trail places (last ∷ earlier) count values = Waits places count values last × Trail places earlier (openIn (last .waiting) count) (set values (last .variable) 2)
+  Trail places (last ∷ earlier) count values =
+      Waits places count values last × Trail places earlier (openIn (last .waiting) count) (set values (last .variable) 2)
 
   -- some branch that is still to be tried has a completion that meets all rows
   unfoldable pub Pending : List Decided → Values → Type 0
@@ -71,16 +72,26 @@ module _ (t start : List ℕ) (noted : ℕ) (base : Values) where
       ((0 < last .waiting) × Completion (MeetsFirst t start noted) (set values (last .variable) (1 - getD values (last .variable) 0)))
       ⊎ Pending earlier (set values (last .variable) 2)
 
-  decides-moved : (places after : List ℕ) (few count : ℕ) (values : Values) → few ≤ count → Rearranged few places after → Decides places count values → Decides after count values
+  decides-moved :
+      (places after : List ℕ) (few count : ℕ) (values : Values) →
+      few ≤ count →
+      Rearranged few places after →
+      Decides places count values →
+      Decides after count values
   decides-moved places after few count values h moved decide =
       record {
         few = decide .few;
-        enough = λ setting agrees met. decide .enough setting agrees (met-before t count places after (rearranged-within few count places after h moved) setting met);
+        enough = λ setting agrees met.
+            decide .enough setting agrees (met-before t count places after (rearranged-within few count places after h moved) setting met);
       }
 
   -- the open rows may be rearranged
   pub trail-moved :
-      (places after : List ℕ) (trail : List Decided) (few count : ℕ) (values : Values) → few ≤ count → Rearranged few places after → Trail places trail count values → Trail after trail count values
+      (places after : List ℕ) (trail : List Decided) (few count : ℕ) (values : Values) →
+      few ≤ count →
+      Rearranged few places after →
+      Trail places trail count values →
+      Trail after trail count values
   unfolding Trail
   trail-moved places after [] few count values h moved same = same
   trail-moved places after (last ∷ earlier) few count values h moved (waits, more) = (
@@ -88,26 +99,35 @@ module _ (t start : List ℕ) (noted : ℕ) (base : Values) where
       inside = waits .inside;
       bit = waits .bit;
       more = waits .more;
-      decide = λ some. decides-moved places after few (last .waiting) (set values (last .variable) 2) (omega (arith, waits .more some)) moved (waits .decide some);
+      decide =
+          λ some. decides-moved places after few (last .waiting) (set values (last .variable) 2) (omega (arith, waits .more some)) moved (waits .decide some);
     },
-    trail-moved places after earlier few (openIn (last .waiting) count) (set values (last .variable) 2) (open-more (last .waiting) count few h (waits .more)) moved more,
+    trail-moved places after earlier few (openIn (last .waiting) count)
+        (set values (last .variable) 2) (open-more (last .waiting) count few h (waits .more)) moved more,
   )
 
   -- fewer rows may be open
-  pub trail-fewer : (places : List ℕ) (trail : List Decided) (few count : ℕ) (values : Values) → few ≤ count → Trail places trail count values → Trail places trail few values
+  pub trail-fewer :
+      (places : List ℕ) (trail : List Decided) (few count : ℕ) (values : Values) → few ≤ count → Trail places trail count values → Trail places trail few values
   unfolding Trail
   trail-fewer places [] few count values h same = same
   trail-fewer places (last ∷ earlier) few count values h (waits, more) = (
     record { inside = waits .inside; bit = waits .bit; more = λ some. omega (arith, waits .more some); decide = waits .decide },
-    trail-fewer places earlier (openIn (last .waiting) few) (openIn (last .waiting) count) (set values (last .variable) 2) (open-fewer (last .waiting) count few h) more,
+    trail-fewer places earlier (openIn (last .waiting) few) (openIn (last .waiting) count)
+        (set values (last .variable) 2) (open-fewer (last .waiting) count few h) more,
   )
 
   -- a setting with the decided values has those of the start
-  pub trail-agrees : (places : List ℕ) (trail : List Decided) (count : ℕ) (values : Values) (setting : Setting) → Trail places trail count values → Agrees values setting → Agrees base setting
+  pub trail-agrees :
+      (places : List ℕ) (trail : List Decided) (count : ℕ) (values : Values) (setting : Setting) →
+      Trail places trail count values →
+      Agrees values setting →
+      Agrees base setting
   unfolding Trail
   trail-agrees places [] count values setting same agrees = rw (← same) agrees
   trail-agrees places (last ∷ earlier) count values setting (waits, more) agrees =
-      trail-agrees places earlier (openIn (last .waiting) count) (set values (last .variable) 2) setting more (agrees-freed values (last .variable) setting (waits .inside) agrees)
+      trail-agrees places earlier (openIn (last .waiting) count) (set values (last .variable) 2) setting more
+      (agrees-freed values (last .variable) setting (waits .inside) agrees)
 
   pub trail-length : (places : List ℕ) (trail : List Decided) (count : ℕ) (values : Values) → Trail places trail count values → length values ≡ length base
   unfolding Trail

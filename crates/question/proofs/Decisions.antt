@@ -21,7 +21,11 @@ module _ (variables waiting : List ℕ) where
   pub back-start : (depth : ℕ) (values : Values) → TakingBack depth depth values values
   back-start depth values = record { few = omega arith; same-trail = refl; same-values = refl }
 
-  last-trail : (left : ℕ) → 0 < left → backTo (decisions variables waiting left) ≡ cond (eqb (getD waiting (left - 1) 0) 0) (backTo (decisions variables waiting (left - 1))) (decisions variables waiting left)
+  last-trail :
+      (left : ℕ) →
+      0 < left →
+      backTo (decisions variables waiting left)
+      ≡ cond (eqb (getD waiting (left - 1) 0) 0) (backTo (decisions variables waiting (left - 1))) (decisions variables waiting left)
   unfolding decisions backTo
   last-trail zero h = absurd (omega arith)
   last-trail (suc left) h = let e : suc left - 1 ≡ left = omega arith in rw e refl
@@ -29,7 +33,8 @@ module _ (variables waiting : List ℕ) where
   last-values :
       (left : ℕ) (values : Values) →
       0 < left →
-      valuesBack (decisions variables waiting left) values ≡ cond (eqb (getD waiting (left - 1) 0) 0) (valuesBack (decisions variables waiting (left - 1)) (set values (getD variables (left - 1) 0) 2)) values
+      valuesBack (decisions variables waiting left) values
+      ≡ cond (eqb (getD waiting (left - 1) 0) 0) (valuesBack (decisions variables waiting (left - 1)) (set values (getD variables (left - 1) 0) 2)) values
   unfolding decisions valuesBack
   last-values zero values h = absurd (omega arith)
   last-values (suc left) values h = let e : suc left - 1 ≡ left = omega arith in rw e refl
@@ -59,7 +64,11 @@ module _ (variables waiting : List ℕ) where
     back-end e = record { few = omega arith; trail = rw e at (taking .same-trail); values-back = rw e at (taking .same-values) }
 
 -- what holds of a trail and its values still holds when decisions are taken back, if it does after one of which both values are tried
-module _ (Holds : List Decided → Values → Type 0) (step : (last : Decided) (earlier : List Decided) (values : Values) → last .waiting ≡ 0 → Holds (last ∷ earlier) values → Holds earlier (set values (last .variable) 2)) where
+module _ (Holds : List Decided → Values → Type 0)
+    (step : (last : Decided) (earlier : List Decided) (values : Values) →
+    last .waiting ≡ 0 →
+    Holds (last ∷ earlier) values →
+    Holds earlier (set values (last .variable) 2)) where
   pub back-keeps : (trail : List Decided) (values : Values) → Holds trail values → Holds (backTo trail) (valuesBack trail values)
   unfolding backTo valuesBack
   back-keeps [] values holds = holds
@@ -79,7 +88,12 @@ unfolding backTo
 back-waits [] last earlier e = let z : _≡_ {A = Bool} true false = cc in absurd (true≢false z)
 back-waits (first ∷ more) last earlier e = go (eqb (first .waiting) 0) refl e (back-waits more last earlier)
   where
-    go : (none : Bool) → eqb (first .waiting) 0 ≡ none → cond none (backTo more) (first ∷ more) ≡ last ∷ earlier → (backTo more ≡ last ∷ earlier → 0 < last .waiting) → 0 < last .waiting
+    go :
+        (none : Bool) →
+        eqb (first .waiting) 0 ≡ none →
+        cond none (backTo more) (first ∷ more) ≡ last ∷ earlier →
+        (backTo more ≡ last ∷ earlier → 0 < last .waiting) →
+        0 < last .waiting
     go true p e later = later e
     go false p e later =
         let same : first ≡ last = cc in
@@ -95,7 +109,11 @@ pub decisions-same :
 unfolding decisions
 decisions-same variables waiting variables′ waiting′ zero same same-waiting = refl
 decisions-same variables waiting variables′ waiting′ (suc depth) same same-waiting =
-    rw (same depth (omega arith), same-waiting depth (omega arith), decisions-same variables waiting variables′ waiting′ depth (λ k h. same k (omega arith)) (λ k h. same-waiting k (omega arith)))
+    rw (
+      same depth (omega arith),
+      same-waiting depth (omega arith),
+      decisions-same variables waiting variables′ waiting′ depth (λ k h. same k (omega arith)) (λ k h. same-waiting k (omega arith)),
+    )
 
 pub length-decisions : (variables waiting : List ℕ) (depth : ℕ) → length (decisions variables waiting depth) ≡ depth
 unfolding decisions
@@ -106,7 +124,8 @@ length-decisions variables waiting (suc depth) = ap suc (length-decisions variab
 pub decisions-last :
     (variables waiting : List ℕ) (depth : ℕ) →
     0 < depth →
-    decisions variables waiting depth ≡ record { variable = getD variables (depth - 1) 0; waiting = getD waiting (depth - 1) 0 } ∷ decisions variables waiting (depth - 1)
+    decisions variables waiting depth
+    ≡ record { variable = getD variables (depth - 1) 0; waiting = getD waiting (depth - 1) 0 } ∷ decisions variables waiting (depth - 1)
 unfolding decisions
 decisions-last variables waiting zero h = absurd (omega arith)
 decisions-last variables waiting (suc depth) h = let e : suc depth - 1 ≡ depth = omega arith in rw e refl
@@ -116,18 +135,30 @@ pub decisions-more :
     (variables waiting : List ℕ) (depth variable wait : ℕ) →
     depth < length variables →
     depth < length waiting →
-    decisions (set variables depth variable) (set waiting depth wait) (depth + 1) ≡ record { variable = variable; waiting = wait } ∷ decisions variables waiting depth
+    decisions (set variables depth variable) (set waiting depth wait) (depth + 1)
+    ≡ record { variable = variable; waiting = wait } ∷ decisions variables waiting depth
 unfolding decisions
 decisions-more variables waiting depth variable wait a b =
     let e : depth + 1 ≡ suc depth = omega arith in
-    rw (e, getD-set-same variables depth variable 0 a, getD-set-same waiting depth wait 0 b, decisions-same variables waiting (set variables depth variable) (set waiting depth wait) depth (λ k h. getD-set-other variables depth k variable 0 (λ e. omega arith)) (λ k h. getD-set-other waiting depth k wait 0 (λ e. omega arith)))
+    rw (
+      e,
+      getD-set-same variables depth variable 0 a,
+      getD-set-same waiting depth wait 0 b,
+      decisions-same variables waiting (set variables depth variable) (set waiting depth wait) depth
+          (λ k h. getD-set-other variables depth k variable 0 (λ e. omega arith)) (λ k h. getD-set-other waiting depth k wait 0 (λ e. omega arith)),
+    )
 
 -- nothing waits any more for the last decision
 pub decisions-turned :
     (variables waiting : List ℕ) (depth : ℕ) →
     0 < depth →
     depth - 1 < length waiting →
-    decisions variables (set waiting (depth - 1) 0) depth ≡ record { variable = getD variables (depth - 1) 0; waiting = 0 } ∷ decisions variables waiting (depth - 1)
+    decisions variables (set waiting (depth - 1) 0) depth
+    ≡ record { variable = getD variables (depth - 1) 0; waiting = 0 } ∷ decisions variables waiting (depth - 1)
 decisions-turned variables waiting depth h inside =
     decisions-last variables (set waiting (depth - 1) 0) depth h
-    ∙ rw (getD-set-same waiting (depth - 1) 0 0 inside, decisions-same variables waiting variables (set waiting (depth - 1) 0) (depth - 1) (λ k below. refl) (λ k below. getD-set-other waiting (depth - 1) k 0 0 (λ e. omega arith)))
+    ∙ rw (
+      getD-set-same waiting (depth - 1) 0 0 inside,
+      decisions-same variables waiting variables (set waiting (depth - 1) 0) (depth - 1)
+          (λ k below. refl) (λ k below. getD-set-other waiting (depth - 1) k 0 0 (λ e. omega arith)),
+    )

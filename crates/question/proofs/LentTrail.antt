@@ -19,7 +19,8 @@ use Rattle.question.specs.declared.looking.Decision.{Decision}
 use Rattle.question.proofs.Rearranging.{asked-open}
 use Rattle.question.proofs.Decisions.{back-keeps, back-waits, length-decisions, decisions-last, decisions-more, decisions-turned}
 use Rattle.question.proofs.Branches.{nodes, ahead, openIn, Waits, Trail, trail-length}
-use Rattle.question.proofs.Searching.{Reached, Failed, reached-start, found-all, branch-fails, decided-next, fewer-nodes, failed-back, none-left, last-waits, turned, fewer-turned}
+use Rattle.question.proofs.Searching.{Reached, Failed, reached-start, found-all, branch-fails, decided-next}
+use Rattle.question.proofs.Searching.{fewer-nodes, failed-back, none-left, last-waits, turned, fewer-turned}
 
 module _ (t start : List ℕ) (noted : ℕ) (base : Values) (variables waiting : List ℕ) where
   -- nothing is decided yet
@@ -28,7 +29,10 @@ module _ (t start : List ℕ) (noted : ℕ) (base : Values) (variables waiting :
   search-start = reached-start t start noted base
 
   -- at most all variables are decided
-  pub depth-most : (places : List ℕ) (depth count : ℕ) (values : Values) → Reached t start noted base places (decisions variables waiting depth) count values → depth ≤ length base
+  pub depth-most :
+      (places : List ℕ) (depth count : ℕ) (values : Values) →
+      Reached t start noted base places (decisions variables waiting depth) count values →
+      depth ≤ length base
   depth-most places depth count values reached = omega (arith, reached .room, length-decisions variables waiting depth)
 
   -- the rows may be looked at
@@ -43,7 +47,9 @@ module _ (t start : List ℕ) (noted : ℕ) (base : Values) (variables waiting :
       rw (trail-length t start noted base places (decisions variables waiting depth) count values (reached .path))
       (asked-open t start places noted count (length base) (reached .moved) same (reached .here .few) asked, few)
 
-  module _ (places : List ℕ) (depth count : ℕ) (values : Values) (reached : Reached t start noted base places (decisions variables waiting depth) count values) (after : List ℕ) (seen : Seen) (looked : Looked t values count places after seen) where
+  module _ (places : List ℕ) (depth count : ℕ) (values : Values)
+      (reached : Reached t start noted base places (decisions variables waiting depth) count values)
+      (after : List ℕ) (seen : Seen) (looked : Looked t values count places after seen) where
     -- the rows are met
     pub look-met : seen ≡ Met → Completed (MeetsFirst t start noted) base true
     look-met e =
@@ -53,18 +59,30 @@ module _ (t start : List ℕ) (noted : ℕ) (base : Values) (variables waiting :
         }
 
     -- some row fails
-    pub look-fails : seen ≡ Fails → Failed t start noted base (nodes (undecided values) + ahead (decisions variables waiting depth) values) after count (decisions variables waiting depth) values
-    look-fails e = branch-fails t start noted base places (decisions variables waiting depth) count values reached after (looked .rearranged) (rw e at (looked .tells))
+    pub look-fails :
+        seen ≡ Fails →
+        Failed t start noted base (nodes (undecided values) + ahead (decisions variables waiting depth) values) after count
+        (decisions variables waiting depth) values
+    look-fails e =
+        branch-fails t start noted base places (decisions variables waiting depth) count values reached after (looked .rearranged) (rw e at (looked .tells))
 
   -- each decision is over a variable that there is
   trail-inside :
-      (places : List ℕ) (depth count : ℕ) (values : Values) → Trail t start noted base places (decisions variables waiting depth) count values → (k : ℕ) → k < depth → getD variables k 0 < length values
+      (places : List ℕ) (depth count : ℕ) (values : Values) →
+      Trail t start noted base places (decisions variables waiting depth) count values →
+      (k : ℕ) →
+      k < depth →
+      getD variables k 0 < length values
   unfolding Trail decisions
   trail-inside places zero count values path k h = absurd (omega arith)
   trail-inside places (suc depth) count values (waits, more) k h =
       go (ltb k depth) refl (trail-inside places depth (openIn (getD waiting depth 0) count) (set values (getD variables depth 0) 2) more k)
     where
-      go : (less : Bool) → ltb k depth ≡ less → (k < depth → getD variables k 0 < length (set values (getD variables depth 0) 2)) → getD variables k 0 < length values
+      go :
+          (less : Bool) →
+          ltb k depth ≡ less →
+          (k < depth → getD variables k 0 < length (set values (getD variables depth 0) 2)) →
+          getD variables k 0 < length values
       go true p earlier = simp length-set at (earlier (ltb-true k depth p))
       go false p earlier = let e : k ≡ depth = let above : depth ≤ k = ltb-false k depth p in omega arith in rw e (waits .inside)
 
@@ -82,10 +100,14 @@ module _ (t start : List ℕ) (noted : ℕ) (base : Values) (variables waiting :
         inside = trail-inside places depth count values (reached .path);
       }
 
-  module _ (many : ℕ) (places : List ℕ) (count depth left : ℕ) (values now-values : Values) (failed : Failed t start noted base many places count (decisions variables waiting depth) values) (taken : TakenBack variables waiting depth left values now-values) where
+  module _ (many : ℕ) (places : List ℕ) (count depth left : ℕ) (values now-values : Values)
+      (failed : Failed t start noted base many places count (decisions variables waiting depth) values)
+      (taken : TakenBack variables waiting depth left values now-values) where
     failed-taken : Failed t start noted base many places count (decisions variables waiting left) now-values
     failed-taken =
-        rw (taken .trail, taken .values-back) (back-keeps (Failed t start noted base many places count) (failed-back t start noted base many places count) (decisions variables waiting depth) values failed)
+        rw (taken .trail, taken .values-back)
+        (back-keeps (Failed t start noted base many places count)
+        (failed-back t start noted base many places count) (decisions variables waiting depth) values failed)
 
     -- all is tried
     pub search-fails : left ≡ 0 → Completed (MeetsFirst t start noted) base false
@@ -94,35 +116,52 @@ module _ (t start : List ℕ) (noted : ℕ) (base : Values) (variables waiting :
         record { found = λ wrong. absurd (false≢true wrong); none = λ _. none-left t start noted base many places count now-values (rw e at failed-taken) }
 
     module _ (some : 0 < left) where
-      failed-last : Failed t start noted base many places count (record { variable = getD variables (left - 1) 0; waiting = getD waiting (left - 1) 0 } ∷ decisions variables waiting (left - 1)) now-values
+      failed-last :
+          Failed t start noted base many places count
+          (record { variable = getD variables (left - 1) 0; waiting = getD waiting (left - 1) 0 } ∷ decisions variables waiting (left - 1)) now-values
       failed-last = rw (decisions-last variables waiting left some) at failed-taken
 
       rows-wait : 0 < getD waiting (left - 1) 0
       rows-wait = back-waits (decisions variables waiting depth) _ _ (sym (taken .trail) ∙ decisions-last variables waiting left some)
 
-      pub last-decision : Waits t start noted base places count now-values (record { variable = getD variables (left - 1) 0; waiting = getD waiting (left - 1) 0 })
+      pub last-decision :
+          Waits t start noted base places count now-values (record { variable = getD variables (left - 1) 0; waiting = getD waiting (left - 1) 0 })
       last-decision = last-waits t start noted base many places count _ _ now-values failed-last rows-wait
 
       -- the other value of the last decision is tried
-      module _ (next-count : ℕ) (next-waiting : List ℕ) (next-values : Values) (inside : left - 1 < length waiting) (waited : next-count ≡ getD waiting (left - 1) 0) (nothing : next-waiting ≡ set waiting (left - 1) 0) (other : next-values ≡ set now-values (getD variables (left - 1) 0) (1 - getD now-values (getD variables (left - 1) 0) 0)) where
+      module _ (next-count : ℕ) (next-waiting : List ℕ) (next-values : Values) (inside : left - 1 < length waiting)
+          (waited : next-count ≡ getD waiting (left - 1) 0) (nothing : next-waiting ≡ set waiting (left - 1) 0)
+          (other : next-values ≡ set now-values (getD variables (left - 1) 0) (1 - getD now-values (getD variables (left - 1) 0) 0)) where
         pub turned-back : Reached t start noted base places (decisions variables next-waiting left) next-count next-values
-        turned-back = rw (waited, nothing, other, decisions-turned variables waiting left some inside) (turned t start noted base many places count _ _ now-values failed-last rows-wait)
+        turned-back =
+            rw (waited, nothing, other, decisions-turned variables waiting left some inside)
+            (turned t start noted base many places count _ _ now-values failed-last rows-wait)
 
         pub fewer-back : nodes (undecided next-values) + ahead (decisions variables next-waiting left) next-values < many
-        fewer-back = rw (nothing, other, decisions-turned variables waiting left some inside) (fewer-turned t start noted base many places count _ _ now-values failed-last rows-wait)
+        fewer-back =
+            rw (nothing, other, decisions-turned variables waiting left some inside)
+            (fewer-turned t start noted base many places count _ _ now-values failed-last rows-wait)
 
   -- a variable is decided
-  module _ (places : List ℕ) (depth count : ℕ) (values : Values) (reached : Reached t start noted base places (decisions variables waiting depth) count values) (after : List ℕ) (seen : Seen) (looked : Looked t values count places after seen) (decision : Decision) (is-open : seen ≡ Open decision) where
+  module _ (places : List ℕ) (depth count : ℕ) (values : Values)
+      (reached : Reached t start noted base places (decisions variables waiting depth) count values) (after : List ℕ) (seen : Seen)
+      (looked : Looked t values count places after seen) (decision : Decision) (is-open : seen ≡ Open decision) where
     pub open-rows : LeftOpen t values count after decision
     open-rows = rw is-open at (looked .tells)
 
     pub trail-room : depth < length base
     trail-room =
-        omega (arith, reached .room, length-decisions variables waiting depth, fewer-undecided values (decision .variable) (open-rows .inside) (open-rows .free) 0 (omega arith))
+        omega (
+          arith,
+          reached .room,
+          length-decisions variables waiting depth,
+          fewer-undecided values (decision .variable) (open-rows .inside) (open-rows .free) 0 (omega arith),
+        )
 
     module _ (inside : depth < length variables) (inside-waiting : depth < length waiting) where
       pub one-deeper :
-          Reached t start noted base after (decisions (set variables depth (decision .variable)) (set waiting depth (decision .left)) (depth + 1)) (decision .left) (set values (decision .variable) (decision .first))
+          Reached t start noted base after (decisions (set variables depth (decision .variable)) (set waiting depth (decision .left)) (depth + 1))
+          (decision .left) (set values (decision .variable) (decision .first))
       one-deeper =
           rw (decisions-more variables waiting depth (decision .variable) (decision .left) inside inside-waiting)
           (decided-next t start noted base places (decisions variables waiting depth) count values reached after (looked .rearranged) decision open-rows)
@@ -130,7 +169,8 @@ module _ (t start : List ℕ) (noted : ℕ) (base : Values) (variables waiting :
       pub fewer-deeper :
           (wait : ℕ) →
           nodes (undecided (set values (decision .variable) (decision .first)))
-          + ahead (decisions (set variables depth (decision .variable)) (set waiting depth wait) (depth + 1)) (set values (decision .variable) (decision .first))
+          + ahead (decisions (set variables depth (decision .variable)) (set waiting depth wait) (depth + 1))
+          (set values (decision .variable) (decision .first))
           < nodes (undecided values) + ahead (decisions variables waiting depth) values
       fewer-deeper wait =
           rw (decisions-more variables waiting depth (decision .variable) wait inside inside-waiting)

@@ -70,7 +70,8 @@ pub noted-asked :
     Noted (byRole chosen) (f .rows) t places noted →
     variables ≡ f .variables →
     RowsAsked t places noted variables
-noted-asked t f chosen places noted variables asked counting h = record { few = counting .few; each = λ i below. record { requests = f .requests; row-kept = rw h (there i below) } }
+noted-asked t f chosen places noted variables asked counting h =
+    record { few = counting .few; each = λ i below. record { requests = f .requests; row-kept = rw h (there i below) } }
   where
     there : (i : ℕ) → i < noted → RowKept (f .variables) (f .requests) t (getD places i 0)
     there i below =
@@ -102,10 +103,12 @@ place-written :
     take (noted + valueOf counting) (set places noted at) ++ more ≡ take noted places ++ cond counting (at ∷ more) more
 unfolding valueOf
 place-written true places noted at more h = rw (add-one, take-suc-set places noted at h) (append-assoc (take noted places) (at ∷ []) more)
-place-written false places noted at more h = ap (λ (l : List ℕ). l ++ more) (ap (λ (n : ℕ). take n (set places noted at)) (add-zero noted) ∙ take-set-le noted places noted at (omega arith))
+place-written false places noted at more h =
+    ap (λ (l : List ℕ). l ++ more) (ap (λ (n : ℕ). take n (set places noted at)) (add-zero noted) ∙ take-set-le noted places noted at (omega arith))
 
 -- one turn of the walk
-module _ (t : List ℕ) (f : Frame) (chosen : List Bool) (asked : MayAsk t f chosen) (left at : ℕ) (more : 0 < left) (kept : RowsKept (f .variables) (f .requests) t left at (f .order)) where
+module _ (t : List ℕ) (f : Frame) (chosen : List Bool) (asked : MayAsk t f chosen) (left at : ℕ)
+    (more : 0 < left) (kept : RowsKept (f .variables) (f .requests) t left at (f .order)) where
   -- the row at hand is whole and in range
   pub row-here : RowKept (f .variables) (f .requests) t at
   row-here = rows-kept-turn (f .variables) (f .requests) t left at (f .order) more kept .0

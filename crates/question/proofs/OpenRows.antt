@@ -36,13 +36,15 @@ module _ (t : List ℕ) (values : Values) (count : ℕ) (before : List ℕ) wher
           may-hold = λ h. sorted .may-hold;
         }
 
-    module _ (room : count ≤ length places) (order : kept ≤ next) (more : next < count) (state : ℕ) (tested : state ≡ rowState values (rowAt t (getD places next 0))) where
+    module _ (room : count ≤ length places) (order : kept ≤ next) (more : next < count)
+        (state : ℕ) (tested : state ≡ rowState values (rowAt t (getD places next 0))) where
       -- the row at hand cannot be met
       pub row-lost : 1 < state → (left : ℕ) → count < left → Narrowed t values count before (exchanged places 0 next) left
       row-lost never left beyond =
           record {
             reduced = record {
-              rearranged = rearranged-twice count before places (exchanged places 0 next) (sorted .rearranged) (exchange-rearranges count places 0 next room (omega arith) more);
+              rearranged = rearranged-twice count before places (exchanged places 0 next)
+                  (sorted .rearranged) (exchange-rearranges count places 0 next room (omega arith) more);
               lost = λ h found. not-met found (sorted .rearranged .none-new next more);
               hold = λ h. absurd (omega arith);
             };
@@ -58,7 +60,8 @@ module _ (t : List ℕ) (values : Values) (count : ℕ) (before : List ℕ) wher
       pub sorted-turn : state ≤ 1 → Sorted t values count before (exchanged places kept next) (kept + state) (next + 1)
       sorted-turn small =
           record {
-            rearranged = rearranged-twice count before places (exchanged places kept next) (sorted .rearranged) (exchange-rearranges count places kept next room (omega arith) more);
+            rearranged = rearranged-twice count before places (exchanged places kept next)
+                (sorted .rearranged) (exchange-rearranges count places kept next room (omega arith) more);
             may-hold = λ i h. may i h (eqb i kept) refl;
             hold = λ i a b setting agrees. met i a b setting agrees (eqb i kept) (eqb i next) refl refl;
           }
@@ -89,4 +92,5 @@ module _ (t : List ℕ) (values : Values) (count : ℕ) (before : List ℕ) wher
 
 -- nothing is done
 pub reduced-not : (t : List ℕ) (values : Values) (count : ℕ) (places : List ℕ) → Reduced t values count places places count
-reduced-not t values count places = record { rearranged = rearranged-not count places; lost = λ h. absurd (omega arith); hold = λ h i a b. absurd (omega arith) }
+reduced-not t values count places =
+    record { rearranged = rearranged-not count places; lost = λ h. absurd (omega arith); hold = λ h i a b. absurd (omega arith) }

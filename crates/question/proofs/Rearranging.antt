@@ -87,14 +87,24 @@ exchange-rearranges count list one other h a b =
     }
   where
     new : (i : ℕ) → i < count → (p q : Bool) → eqb i one ≡ p → eqb i other ≡ q → Among list count (getD (exchanged list one other) i 0)
-    new i below true q e f = let s : i ≡ one = eqb-true i one e in record { place = other; below = b; there = rw s (sym (at-one list one other (omega arith) (omega arith))) }
-    new i below false true e f = let s : i ≡ other = eqb-true i other f in record { place = one; below = a; there = rw s (sym (at-other list one other (omega arith) (omega arith))) }
-    new i below false false e f = record { place = i; below = below; there = sym (at-third list one other (omega arith) (omega arith) i (eqb-false i one e) (eqb-false i other f)) }
+    new i below true q e f =
+        let s : i ≡ one = eqb-true i one e in
+        record { place = other; below = b; there = rw s (sym (at-one list one other (omega arith) (omega arith))) }
+    new i below false true e f =
+        let s : i ≡ other = eqb-true i other f in
+        record { place = one; below = a; there = rw s (sym (at-other list one other (omega arith) (omega arith))) }
+    new i below false false e f =
+        record { place = i; below = below; there = sym (at-third list one other (omega arith) (omega arith) i (eqb-false i one e) (eqb-false i other f)) }
 
     lost : (i : ℕ) → i < count → (p q : Bool) → eqb i one ≡ p → eqb i other ≡ q → Among (exchanged list one other) count (getD list i 0)
-    lost i below true q e f = let s : i ≡ one = eqb-true i one e in record { place = other; below = b; there = rw s (at-other list one other (omega arith) (omega arith)) }
-    lost i below false true e f = let s : i ≡ other = eqb-true i other f in record { place = one; below = a; there = rw s (at-one list one other (omega arith) (omega arith)) }
-    lost i below false false e f = record { place = i; below = below; there = at-third list one other (omega arith) (omega arith) i (eqb-false i one e) (eqb-false i other f) }
+    lost i below true q e f =
+        let s : i ≡ one = eqb-true i one e in
+        record { place = other; below = b; there = rw s (at-other list one other (omega arith) (omega arith)) }
+    lost i below false true e f =
+        let s : i ≡ other = eqb-true i other f in
+        record { place = one; below = a; there = rw s (at-one list one other (omega arith) (omega arith)) }
+    lost i below false false e f =
+        record { place = i; below = below; there = at-third list one other (omega arith) (omega arith) i (eqb-false i one e) (eqb-false i other f) }
 
 pub length-exchanged : (list : List ℕ) (one other : ℕ) → length (exchanged list one other) ≡ length list
 unfolding exchanged
@@ -102,7 +112,11 @@ length-exchanged list one other = simp length-set
 
 -- rows that may be read may be read where they are rearranged
 pub asked-rearranged :
-    (t before after : List ℕ) (count variables : ℕ) → Rearranged count before after → length after ≡ length before → RowsAsked t before count variables → RowsAsked t after count variables
+    (t before after : List ℕ) (count variables : ℕ) →
+    Rearranged count before after →
+    length after ≡ length before →
+    RowsAsked t before count variables →
+    RowsAsked t after count variables
 asked-rearranged t before after count variables r h asked =
     record {
       few = omega (arith, asked .few);

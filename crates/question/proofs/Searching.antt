@@ -11,7 +11,8 @@ use lib.Seq.{set-set, getD-set-same}
 use borrow.Author.Tests.{eq-eqb, ne-eqb}
 use Rattle.meaning.specs.Meaning.{Setting}
 use Rattle.meaning.specs.HalfMade.{Values, Agrees, undecided}
-use Rattle.meaning.proofs.HalfMade.{agrees-freed, agrees-with, agrees-without, set-back, one-or-other, undecided-most, undecided-changed, undecided-turned, fewer-undecided}
+use Rattle.meaning.proofs.HalfMade.{agrees-freed, agrees-with, agrees-without, set-back, one-or-other}
+use Rattle.meaning.proofs.HalfMade.{undecided-most, undecided-changed, undecided-turned, fewer-undecided}
 use Rattle.question.specs.Rearranging.{Rearranged}
 use Rattle.question.specs.Completing.{Completion, MeetsFirst}
 use Rattle.question.specs.Looking.{LeftOpen}
@@ -91,7 +92,8 @@ module _ (t start : List ℕ) (noted : ℕ) (base : Values) where
           }
         where
           part : (setting : Setting) → Agrees values setting → MeetsFirst t start noted setting → MeetsFirst t places count setting
-          part setting agrees met = record { each = λ i h. met-after t noted start places (reached .moved) setting met .each i (omega (arith, reached .here .few)) }
+          part setting agrees met =
+              record { each = λ i h. met-after t noted start places (reached .moved) setting met .each i (omega (arith, reached .here .few)) }
 
       -- rows are left open, and a variable is decided
       module _ (decision : Decision) (open-rows : LeftOpen t values count after decision) where
@@ -107,11 +109,13 @@ module _ (t start : List ℕ) (noted : ℕ) (base : Values) where
               few = omega (arith, open-rows .few, reached .here .few);
               enough = λ setting agrees met.
                   reached .here .enough setting agrees
-                  (met-before t count places after moved setting (met-whole t after (decision .left) count setting (λ i a b. open-rows .hold i a b setting agrees) met));
+                  (met-before t count places after moved setting
+                  (met-whole t after (decision .left) count setting (λ i a b. open-rows .hold i a b setting agrees) met));
             }
 
         waits :
-            Waits t start noted base after (decision .left) (set values (decision .variable) (decision .first)) (record { variable = decision .variable; waiting = decision .left })
+            Waits t start noted base after (decision .left) (set values (decision .variable) (decision .first))
+            (record { variable = decision .variable; waiting = decision .left })
         waits =
             record {
               inside = simp length-set (open-rows .inside);
@@ -135,7 +139,10 @@ module _ (t start : List ℕ) (noted : ℕ) (base : Values) where
             ⊎-elim (λ e. inl (with-value (decision .first) e)) (λ e. inr (with-value (1 - decision .first) e))
             (one-or-other (decision .first) (open-rows .bit) (getD (found .setting) (decision .variable) false))
           where
-            with-value : (value : ℕ) → getD (found .setting) (decision .variable) false ≡ eqb value 1 → Completion (MeetsFirst t start noted) (set values (decision .variable) value)
+            with-value :
+                (value : ℕ) →
+                getD (found .setting) (decision .variable) false ≡ eqb value 1 →
+                Completion (MeetsFirst t start noted) (set values (decision .variable) value)
             with-value value e =
                 record {
                   setting = found .setting;
@@ -144,7 +151,8 @@ module _ (t start : List ℕ) (noted : ℕ) (base : Values) where
                 }
 
         pub decided-next :
-            Reached after (record { variable = decision .variable; waiting = decision .left } ∷ trail) (decision .left) (set values (decision .variable) (decision .first))
+            Reached after (record { variable = decision .variable; waiting = decision .left } ∷ trail)
+            (decision .left) (set values (decision .variable) (decision .first))
         unfolding Trail Pending
         decided-next =
             record {
@@ -155,33 +163,49 @@ module _ (t start : List ℕ) (noted : ℕ) (base : Values) where
                     decides .enough setting (agrees-without values (decision .variable) (open-rows .inside) (open-rows .free) (decision .first) setting agrees);
               };
               path = (waits, rw (undone, same-open) (trail-fewer t start noted base after trail (decision .left) count values (open-rows .few) path-on));
-              tried = λ found. ⊎-elim (λ here. ⊎-elim inl (λ other. inr (inl (open-rows .some, rw (given, set-set values (decision .variable) (decision .first) (1 - decision .first)) other))) (one-of-two here)) (λ pending. inr (inr (rw undone pending))) (reached .tried found);
-              room = omega (arith, reached .room, fewer-undecided values (decision .variable) (open-rows .inside) (open-rows .free) (decision .first) (open-rows .bit));
+              tried = λ found. ⊎-elim
+                  (λ here. ⊎-elim inl
+                  (λ other. inr (inl (open-rows .some, rw (given, set-set values (decision .variable) (decision .first) (1 - decision .first)) other)))
+                  (one-of-two here))
+                  (λ pending. inr (inr (rw undone pending))) (reached .tried found);
+              room = omega (
+                arith,
+                reached .room,
+                fewer-undecided values (decision .variable) (open-rows .inside) (open-rows .free) (decision .first) (open-rows .bit),
+              );
             }
 
         -- fewer nodes are left, however many rows are said to wait
         pub fewer-nodes :
             (waiting : ℕ) →
-            nodes (undecided (set values (decision .variable) (decision .first))) + ahead (record { variable = decision .variable; waiting = waiting } ∷ trail) (set values (decision .variable) (decision .first))
+            nodes (undecided (set values (decision .variable) (decision .first)))
+            + ahead (record { variable = decision .variable; waiting = waiting } ∷ trail) (set values (decision .variable) (decision .first))
             < nodes (undecided values) + ahead trail values
         unfolding ahead
         fewer-nodes waiting = rw undone (go (eqb waiting 0))
           where
-            less : nodes (undecided (set values (decision .variable) (decision .first))) + nodes (undecided (set values (decision .variable) (decision .first))) < nodes (undecided values)
+            less :
+                nodes (undecided (set values (decision .variable) (decision .first))) + nodes (undecided (set values (decision .variable) (decision .first)))
+                < nodes (undecided values)
             less =
                 two-trees (undecided (set values (decision .variable) (decision .first))) (undecided values)
                 (fewer-undecided values (decision .variable) (open-rows .inside) (open-rows .free) (decision .first) (open-rows .bit))
 
             go :
                 (none : Bool) →
-                nodes (undecided (set values (decision .variable) (decision .first))) + (cond none 0 (nodes (undecided (set values (decision .variable) (decision .first)))) + ahead trail values)
+                nodes (undecided (set values (decision .variable) (decision .first)))
+                + (cond none 0 (nodes (undecided (set values (decision .variable) (decision .first)))) + ahead trail values)
                 < nodes (undecided values) + ahead trail values
             go true = omega (arith, less)
             go false = omega (arith, less)
 
   module _ (many : ℕ) (places : List ℕ) (count : ℕ) where
     -- both values of the last decision are tried
-    pub failed-back : (last : Decided) (earlier : List Decided) (values : Values) → last .waiting ≡ 0 → Failed many places count (last ∷ earlier) values → Failed many places count earlier (set values (last .variable) 2)
+    pub failed-back :
+        (last : Decided) (earlier : List Decided) (values : Values) →
+        last .waiting ≡ 0 →
+        Failed many places count (last ∷ earlier) values →
+        Failed many places count earlier (set values (last .variable) 2)
     unfolding Trail Pending ahead
     failed-back last earlier values e failed =
         record {
@@ -198,7 +222,8 @@ module _ (t start : List ℕ) (noted : ℕ) (base : Values) where
     none-left values failed = failed .tried
 
     -- the other value of the last decision is tried
-    module _ (last : Decided) (earlier : List Decided) (values : Values) (failed : Failed many places count (last ∷ earlier) values) (some : 0 < last .waiting) where
+    module _ (last : Decided) (earlier : List Decided) (values : Values)
+        (failed : Failed many places count (last ∷ earlier) values) (some : 0 < last .waiting) where
       pub last-waits : Waits t start noted base places count values last
       unfolding Trail
       last-waits = failed .path .0
@@ -210,7 +235,9 @@ module _ (t start : List ℕ) (noted : ℕ) (base : Values) where
       freed-again : (value : ℕ) → set (set values (last .variable) value) (last .variable) 2 ≡ set values (last .variable) 2
       freed-again value = set-set values (last .variable) value 2
 
-      pub turned : Reached places (record { variable = last .variable; waiting = 0 } ∷ earlier) (last .waiting) (set values (last .variable) (1 - getD values (last .variable) 0))
+      pub turned :
+          Reached places (record { variable = last .variable; waiting = 0 } ∷ earlier)
+          (last .waiting) (set values (last .variable) (1 - getD values (last .variable) 0))
       unfolding Trail Pending
       turned =
           record {
@@ -219,7 +246,9 @@ module _ (t start : List ℕ) (noted : ℕ) (base : Values) where
               few = last-waits .decide some .few;
               enough = λ setting agrees.
                   last-waits .decide some .enough setting
-                  (rw (freed-again (1 - getD values (last .variable) 0)) at (agrees-freed (set values (last .variable) (1 - getD values (last .variable) 0)) (last .variable) setting (simp length-set (last-waits .inside)) agrees));
+                  (rw (freed-again (1 - getD values (last .variable) 0)) at
+                  (agrees-freed (set values (last .variable) (1 - getD values (last .variable) 0))
+                  (last .variable) setting (simp length-set (last-waits .inside)) agrees));
             };
             path = (
               record {
@@ -230,7 +259,8 @@ module _ (t start : List ℕ) (noted : ℕ) (base : Values) where
               },
               rw (freed-again (1 - getD values (last .variable) 0)) before,
             );
-            tried = λ found. ⊎-elim (λ here. inl (here .1)) (λ pending. inr (inr (rw (freed-again (1 - getD values (last .variable) 0)) pending))) (failed .tried found);
+            tried = λ found.
+                ⊎-elim (λ here. inl (here .1)) (λ pending. inr (inr (rw (freed-again (1 - getD values (last .variable) 0)) pending))) (failed .tried found);
             room = omega (arith, failed .room, undecided-turned values (last .variable) (1 - getD values (last .variable) 0) (last-waits .bit) (omega arith));
           }
 
@@ -241,5 +271,9 @@ module _ (t start : List ℕ) (noted : ℕ) (base : Values) where
       unfolding ahead
       fewer-turned =
           let there : last .waiting ≡ 0 → ⊥ = λ e. omega arith in
-          let fewer : nodes (undecided values) + ahead earlier (set values (last .variable) 2) < many = rw (ne-eqb (last .waiting) 0 there) at (failed .fewer) in
-          rw (undecided-turned values (last .variable) (1 - getD values (last .variable) 0) (last-waits .bit) (omega arith), freed-again (1 - getD values (last .variable) 0)) (omega arith)
+          let fewer : nodes (undecided values) + ahead earlier (set values (last .variable) 2) < many =
+          rw (ne-eqb (last .waiting) 0 there) at (failed .fewer) in
+          rw (
+            undecided-turned values (last .variable) (1 - getD values (last .variable) 0) (last-waits .bit) (omega arith),
+            freed-again (1 - getD values (last .variable) 0),
+          ) (omega arith)

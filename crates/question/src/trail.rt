@@ -26,7 +26,9 @@ pub fn take_back(values: &mut [u8], variables: &[u16], waiting: &[u16], depth: u
 // Gives the variable of a decision its other value, and tells how many rows waited for that.
 pub fn turn(values: &mut [u8], variable: usize, waiting: &mut [u16], last: usize) -> usize
     requires { ⌜ (variable < length (now values)) × (getD (now values) variable 0 ≤ 1) × (last < length (now waiting)) ⌝ }
-    ensures { λ r. ⌜ (r ≡ getD (now (waiting .entry)) last 0) × (now (waiting .exit) ≡ set (now (waiting .entry)) last 0) × (now (values .exit) ≡ set (now (values .entry)) variable (1 - getD (now (values .entry)) variable 0)) ⌝ }
+    ensures { λ r. ⌜ (r ≡ getD (now (waiting .entry)) last 0)
+        × (now (waiting .exit) ≡ set (now (waiting .entry)) last 0)
+        × (now (values .exit) ≡ set (now (values .entry)) variable (1 - getD (now (values .entry)) variable 0)) ⌝ }
 {
     values[variable] = 1 - values[variable];
     let count = waiting[last] as usize;

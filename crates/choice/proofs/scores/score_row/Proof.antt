@@ -40,7 +40,8 @@ score-clause-requires c κs =
     let entry = c .before .before .before .before .before .before .before .args in
     let known = c .before .before .before .before .before .before .before .pre in
     let number = c .before .before .before .number in
-    clause-asked (entry .table .now) (entry .at) _ known (number .result) (number .ensures .0) (sym (c .before .before .number2 .ensures .0) ∙ c .before .if1 .taken) .whole
+    clause-asked (entry .table .now) (entry .at) _ known (number .result) (number .ensures .0)
+    (sym (c .before .before .number2 .ensures .0) ∙ c .before .if1 .taken) .whole
 
 -- src/scores.rt:139:9
 same-length : tie.Need-same-length
@@ -79,8 +80,11 @@ room-of-requires : tie.Need-room-of-requires
 room-of-requires c κs =
     let entry = c .before .before .before .before .before .before .before .args in
     let known = c .before .before .before .before .before .before .before .pre in
-    let number = c .before .before .before .number in
-    (linear-asked (entry .table .now) (entry .at) _ known (number .result) (number .ensures .0) (λ two. c .before .if1 .left (c .before .before .number2 .ensures .0 ∙ two)) (number .ensures .1), omega arith)
+    let number = c .before .before .before .number in (
+      linear-asked (entry .table .now) (entry .at) _ known (number .result) (number .ensures .0)
+          (λ two. c .before .if1 .left (c .before .before .number2 .ensures .0 ∙ two)) (number .ensures .1),
+      omega arith,
+    )
 
 -- src/scores.rt:143:24
 add-score-terms : tie.Need-add-score-terms
@@ -92,7 +96,8 @@ score-terms-requires c κs =
     let entry = c .before .before .before .before .before .before .before .before .before .args in
     let known = c .before .before .before .before .before .before .before .before .before .pre in
     let number = c .before .before .before .before .before .number in
-    linear-asked (entry .table .now) (entry .at) _ known (number .result) (number .ensures .0) (λ two. c .before .before .before .if1 .left (c .before .before .before .before .number2 .ensures .0 ∙ two)) (number .ensures .1) .whole
+    linear-asked (entry .table .now) (entry .at) _ known (number .result) (number .ensures .0)
+    (λ two. c .before .before .before .if1 .left (c .before .before .before .before .number2 .ensures .0 ∙ two)) (number .ensures .1) .whole
 
 -- src/scores.rt:133:1
 same-length-2 : tie.Need-same-length-2

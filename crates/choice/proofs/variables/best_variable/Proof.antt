@@ -37,7 +37,9 @@ loop-again c = (omega arith, c .better .ensures)
 
 -- src/variables.rt:37:1
 returns : tie.Need-returns Inv-loop μ-loop
-returns c = chosen-all (c .before .before .before .before .args .values .now) (c .before .loop .next) (c .before .loop .best) (c .loop-test .left) (c .before .loop .inv .1)
+returns c =
+    chosen-all (c .before .before .before .before .args .values .now) (c .before .loop .next)
+    (c .before .loop .best) (c .loop-test .left) (c .before .loop .inv .1)
 
 pub best-variable-spec : {M : Type 1} → statement M
 best-variable-spec =

@@ -17,7 +17,8 @@ is-undecided-requires c κs = search needs
 returns : tie.Need-returns
 returns c =
     let entry = c .before .before .before .before .args in
-    passed-over (entry .values .now) (entry .next) (entry .best) (c .before .before .before .before .pre .0) (sym (c .before .is-undecided .ensures) ∙ not-true _ (c .if1 .taken))
+    passed-over (entry .values .now) (entry .next) (entry .best) (c .before .before .before .before .pre .0)
+    (sym (c .before .is-undecided .ensures) ∙ not-true _ (c .if1 .taken))
 
 -- src/variables.rt:19:12
 rank-of-requires : tie.Need-rank-of-requires

@@ -32,7 +32,13 @@ work-requires c κs =
     let known = c .before .before .before .before .before .before .before .before .before .before .before .before .before .before .pre in
     let begin = c .before .before .before .before .before .before .before .begin in
     let enum-told2 = c .before .before .before .enum-told2 in
-    (relent _ known (begin .kept .1 .1 .1 .0), open-none (entry .method) (questionOf (entry .table .now) (entry .frame) (entry .order .now)) (length (entry .flags .now)) (begin .result) _ (begin .ensures) (enum-told2 .given .1) ∙ ap none (sym (begin .kept .1 .1 .1 .0)), rw (begin .kept .1 .1 .1 .0) (open-some (entry .method) (questionOf (entry .table .now) (entry .frame) (entry .order .now)) (length (entry .flags .now)) (begin .result) _ (begin .ensures) (enum-told2 .given .1)))
+    let question = questionOf (entry .table .now) (entry .frame) (entry .order .now) in (
+      relent _ known (begin .kept .1 .1 .1 .0),
+      open-none (entry .method) question (length (entry .flags .now)) (begin .result) _ (begin .ensures) (enum-told2 .given .1)
+          ∙ ap none (sym (begin .kept .1 .1 .1 .0)),
+      rw (begin .kept .1 .1 .1 .0)
+          (open-some (entry .method) question (length (entry .flags .now)) (begin .result) _ (begin .ensures) (enum-told2 .given .1)),
+    )
 
 add-t23 : tie.Need-add-t23
 add-t23 c = search needs
@@ -44,7 +50,9 @@ returns : tie.Need-returns
 returns c =
     let entry = c .before .before .before .before .before .before .before .before .before .before .before .before .before .before .before .args in
     let begin = c .before .before .before .before .before .before .before .before .begin in
-    answers-all (entry .method) (questionOf (entry .table .now) (entry .frame) (entry .order .now)) (length (entry .flags .now)) (begin .result) _ (begin .ensures) (c .before .before .before .before .enum-told .given .1) _ (c .before .before .settle .ensures ∙ ap (wholeBy (entry .method)) (begin .kept .1 .1 .1 .0))
+    answers-all (entry .method) (questionOf (entry .table .now) (entry .frame) (entry .order .now))
+    (length (entry .flags .now)) (begin .result) _ (begin .ensures) (c .before .before .before .before .enum-told .given .1) _
+    (c .before .before .settle .ensures ∙ ap (wholeBy (entry .method)) (begin .kept .1 .1 .1 .0))
 
 same-length-2 : tie.Need-same-length-2
 same-length-2 c = search needs
@@ -53,18 +61,21 @@ returns-2 : tie.Need-returns-2
 returns-2 c =
     let entry = c .before .before .before .before .before .before .before .before .before .before .before .before .args in
     let begin = c .before .before .before .before .before .begin in
-    answers-host-fails (entry .method) (questionOf (entry .table .now) (entry .frame) (entry .order .now)) (length (entry .flags .now)) (begin .result) _ (begin .ensures) _ (c .before .begun .given .1)
+    answers-host-fails (entry .method) (questionOf (entry .table .now) (entry .frame) (entry .order .now))
+    (length (entry .flags .now)) (begin .result) _ (begin .ensures) _ (c .before .begun .given .1)
 
 same-length-3 : tie.Need-same-length-3
 same-length-3 c = search needs
 
 returns-3 : tie.Need-returns-3
 returns-3 c =
-    let entry = c .before .before .before .before .before .before .before .before .before .before .before .before .before .before .before .before .before .args in
+    let entry =
+    c .before .before .before .before .before .before .before .before .before .before .before .before .before .before .before .before .before .args in
     let begin = c .before .before .before .before .before .before .before .before .before .before .begin in
     let enum-told2 = c .before .before .before .before .before .before .enum-told2 in
     let work = c .before .before .work in
-    answers-worked (entry .method) (questionOf (entry .table .now) (entry .frame) (entry .order .now)) (length (entry .flags .now)) (begin .result) _ (begin .ensures) (enum-told2 .given .1) _ _ (work .kept .1 .1 .1 .1 .0 ∙ (begin .kept .1 .1 .1 .0)) (rw (begin .kept .1 .1 .1 .0) at (work .ensures))
+    answers-worked (entry .method) (questionOf (entry .table .now) (entry .frame) (entry .order .now)) (length (entry .flags .now)) (begin .result) _
+    (begin .ensures) (enum-told2 .given .1) _ _ (work .kept .1 .1 .1 .1 .0 ∙ (begin .kept .1 .1 .1 .0)) (rw (begin .kept .1 .1 .1 .0) at (work .ensures))
 
 pub answer-spec : {M : Type 1} → statement M
 answer-spec =

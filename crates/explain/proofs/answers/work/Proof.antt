@@ -46,7 +46,9 @@ returns c =
     let known = c .before .before .before .before .before .before .before .before .before .before .before .pre in
     let enum-told = c .before .before .before .before .before .before .enum-told in
     let halve-conflict = c .before .before .halve-conflict in
-    rw (enum-told .given .1) (conflict-told (entry .flags .now) (known .1) (known .2) (questionOf (entry .table .now) (entry .frame) (entry .order .now)) _ _ _ (halve-conflict .kept .1 .1 .1 .0) (halve-conflict .ensures))
+    rw (enum-told .given .1)
+    (conflict-told (entry .flags .now) (known .1) (known .2) (questionOf (entry .table .now) (entry .frame) (entry .order .now)) _ _ _
+    (halve-conflict .kept .1 .1 .1 .0) (halve-conflict .ensures))
 
 same-length-2 : tie.Need-same-length-2
 same-length-2 c = search needs
@@ -67,7 +69,9 @@ returns-3 c =
     let known = c .before .before .before .before .before .before .before .before .before .before .before .pre in
     let enum-told3 = c .before .before .before .before .before .before .enum-told3 in
     let halve-relaxation = c .before .before .halve-relaxation in
-    rw (enum-told3 .given .1) (relaxation-told (entry .flags .now) (known .1) (known .2) (questionOf (entry .table .now) (entry .frame) (entry .order .now)) _ _ _ (halve-relaxation .kept .1 .1 .1 .0) (halve-relaxation .ensures))
+    rw (enum-told3 .given .1)
+    (relaxation-told (entry .flags .now) (known .1) (known .2) (questionOf (entry .table .now) (entry .frame) (entry .order .now)) _ _ _
+    (halve-relaxation .kept .1 .1 .1 .0) (halve-relaxation .ensures))
 
 same-length-4 : tie.Need-same-length-4
 same-length-4 c = search needs

@@ -30,7 +30,8 @@ returns : tie.Need-returns
 returns c =
     let entry = c .before .before .before .before .before .before .before .before .before .before .args in
     let known = c .before .before .before .before .before .before .before .before .before .before .pre in
-    same-question (entry .table .now) (entry .frame) (entry .order .now) (entry .flags .now) known _ (c .before .before .before .before .mark .ensures) (c .can-stand .result) (c .can-stand .ensures)
+    same-question (entry .table .now) (entry .frame) (entry .order .now) (entry .flags .now) known _
+    (c .before .before .before .before .mark .ensures) (c .can-stand .result) (c .can-stand .ensures)
 
 pub ask-spec : {M : Type 1} → statement M
 ask-spec = tie.close (tie.spec element-write-chosen mark-requires can-stand-requires returns)

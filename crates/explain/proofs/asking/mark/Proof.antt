@@ -21,7 +21,10 @@ use Rattle.explain.proofs.asking.mark.Statement.{statement}
 use Rattle.explain.proofs.asking.mark.Tie as tie
 
 abbrev Inv-loop : tie.InvT-loop
-Inv-loop order flags chosen₀ place₀ chosen place = (place ≤ length order) × (length chosen ≡ length chosen₀) × (marked (named (drop place order) (drop place flags)) chosen ≡ marked (named order flags) chosen₀)
+Inv-loop order flags chosen₀ place₀ chosen place =
+    (place ≤ length order)
+    × (length chosen ≡ length chosen₀)
+    × (marked (named (drop place order) (drop place flags)) chosen ≡ marked (named order flags) chosen₀)
 
 abbrev μ-loop : tie.MeasureT-loop
 μ-loop order flags chosen₀ place₀ chosen place = length order - place
@@ -47,7 +50,10 @@ slice-write-chosen c =
     let entry = c .before .before .before .before .before .args in
     let known = c .before .before .before .before .before .pre in
     let loop = c .before .before .before .before .loop in
-    rw (loop .inv .1) (ltb-true _ _ (both (leb 0 (getD (entry .order .now) (loop .place) 0)) (ltb (getD (entry .order .now) (loop .place) 0) (length (entry .chosen .now))) (every-at (within 0 (length (entry .chosen .now))) (entry .order .now) 0 (loop .place) (known .1) (c .before .before .before .loop-test .taken)) .1))
+    let request = getD (entry .order .now) (loop .place) 0 in
+    rw (loop .inv .1)
+    (ltb-true _ _ (both (leb 0 request) (ltb request (length (entry .chosen .now)))
+    (every-at (within 0 (length (entry .chosen .now))) (entry .order .now) 0 (loop .place) (known .1) (c .before .before .before .loop-test .taken)) .1))
 
 add-place : tie.Need-add-place Inv-loop μ-loop
 add-place c = omega arith
@@ -60,8 +66,14 @@ unfolding marked
 loop-again c =
     let entry = c .before .before .before .before .before .args in
     let known = c .before .before .before .before .before .pre in
-    let loop = c .before .before .before .before .loop in
-    (omega arith, simp length-set (loop .inv .1), sym (ap (λ (l : List ℕ). marked l (loop .chosen)) (named-chosen (entry .order .now) (entry .flags .now) (loop .place) 0 false (known .0) (c .before .before .before .loop-test .taken) (c .before .if1 .taken))) ∙ loop .inv .2)
+    let loop = c .before .before .before .before .loop in (
+      omega arith,
+      simp length-set (loop .inv .1),
+      sym (ap (λ (l : List ℕ). marked l (loop .chosen))
+          (named-chosen (entry .order .now) (entry .flags .now) (loop .place) 0 false
+          (known .0) (c .before .before .before .loop-test .taken) (c .before .if1 .taken)))
+          ∙ loop .inv .2,
+    )
 
 add-place-2 : tie.Need-add-place-2 Inv-loop μ-loop
 add-place-2 c = omega arith
@@ -72,8 +84,14 @@ loop-less-2 c = omega arith
 loop-again-2 : tie.Need-loop-again-2 Inv-loop μ-loop
 loop-again-2 c =
     let entry = c .before .before .before .before .args in
-    let loop = c .before .before .before .loop in
-    (omega arith, loop .inv .1, sym (ap (λ (l : List ℕ). marked l (loop .chosen)) (named-left-out (entry .order .now) (entry .flags .now) (loop .place) 0 false (c .before .before .before .before .pre .0) (c .before .before .loop-test .taken) (c .if1 .left))) ∙ loop .inv .2)
+    let loop = c .before .before .before .loop in (
+      omega arith,
+      loop .inv .1,
+      sym (ap (λ (l : List ℕ). marked l (loop .chosen))
+          (named-left-out (entry .order .now) (entry .flags .now) (loop .place) 0 false
+          (c .before .before .before .before .pre .0) (c .before .before .loop-test .taken) (c .if1 .left)))
+          ∙ loop .inv .2,
+    )
 
 same-length : tie.Need-same-length Inv-loop μ-loop
 same-length c = c .before .loop .inv .1
@@ -82,7 +100,9 @@ returns : tie.Need-returns Inv-loop μ-loop
 unfolding marked
 returns c =
     let entry = c .before .before .args in
-    sym (ap (λ (l : List ℕ). marked l (c .before .loop .chosen)) (none-named (entry .order .now) (entry .flags .now) (c .before .loop .place) (c .loop-test .left))) ∙ c .before .loop .inv .2
+    sym (ap (λ (l : List ℕ). marked l (c .before .loop .chosen))
+    (none-named (entry .order .now) (entry .flags .now) (c .before .loop .place) (c .loop-test .left)))
+    ∙ c .before .loop .inv .2
 
 pub mark-spec : {M : Type 1} → statement M
 mark-spec =

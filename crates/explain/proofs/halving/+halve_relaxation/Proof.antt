@@ -54,7 +54,8 @@ halve-relaxation-returns t c =
     let entry = c .before .before .before .before .before .before .before .before .before .before .args in
     let known = c .before .before .before .before .before .before .before .before .before .before .pre in
     let stands-whole = c .before .before .before .stands-whole in
-    keeps-the-part (questionOf (entry .table .now) (entry .frame) (entry .order .now)) (entry .from) (entry .count) (entry .asking) (entry .flags .now) _ (stands-whole .result) (stands-whole .ensures) (known .1 .1 .some) (c .if1 .taken)
+    keeps-the-part (questionOf (entry .table .now) (entry .frame) (entry .order .now)) (entry .from) (entry .count)
+    (entry .asking) (entry .flags .now) _ (stands-whole .result) (stands-whole .ensures) (known .1 .1 .some) (c .if1 .taken)
 
 halve-relaxation-questions-requires : (t : ℕ) → halve-relaxation-lts.Need-questions-requires (calls t) (halve-relaxation-at t) halve-relaxation.Post
 halve-relaxation-questions-requires t c κs = search needs
@@ -68,7 +69,9 @@ halve-relaxation-returns-2 : (t : ℕ) → halve-relaxation-lts.Need-returns-2 (
 halve-relaxation-returns-2 t c =
     let entry = c .before .before .before .before .before .before .before .before .before .before .before .before .args in
     let stands-whole = c .before .before .before .before .before .stands-whole in
-    drops-the-request (questionOf (entry .table .now) (entry .frame) (entry .order .now)) (entry .from) (entry .count) (entry .asking) (entry .flags .now) _ (stands-whole .result) (stands-whole .ensures) (c .before .before .if1 .left) (c .before .questions .result) (c .before .questions .ensures) (c .if2 .taken)
+    drops-the-request (questionOf (entry .table .now) (entry .frame) (entry .order .now)) (entry .from)
+    (entry .count) (entry .asking) (entry .flags .now) _ (stands-whole .result) (stands-whole .ensures)
+    (c .before .before .if1 .left) (c .before .questions .result) (c .before .questions .ensures) (c .if2 .taken)
 
 halve-relaxation-add-cut : (t : ℕ) → halve-relaxation-lts.Need-add-cut (calls t) (halve-relaxation-at t) halve-relaxation.Post
 halve-relaxation-add-cut t c =
@@ -79,78 +82,184 @@ halve-relaxation-add-cut t c =
 halve-relaxation-sub-rest : (t : ℕ) → halve-relaxation-lts.Need-sub-rest (calls t) (halve-relaxation-at t) halve-relaxation.Post
 halve-relaxation-sub-rest t c = omega arith
 
-halve-relaxation-halve-relaxation-requires : (t : ℕ) → halve-relaxation-lts.Need-halve-relaxation-requires (calls t) (halve-relaxation-at t) halve-relaxation.Post
+halve-relaxation-halve-relaxation-requires :
+    (t : ℕ) → halve-relaxation-lts.Need-halve-relaxation-requires (calls t) (halve-relaxation-at t) halve-relaxation.Post
 halve-relaxation-halve-relaxation-requires t c κs =
     let entry = c .before .before .before .before .before .before .before .before .before .before .before .before .before .before .before .args in
     let known = c .before .before .before .before .before .before .before .before .before .before .before .before .before .before .before .pre in
     let stands-whole = c .before .before .before .before .before .before .before .before .stands-whole in
     let if1 = c .before .before .before .before .before .if1 in
-    let if2 = c .before .before .before .if2 in
-    (omega (arith, known .0, known .1 .1 .some, if2 .left), (relent _ (known .1 .0) (stands-whole .kept .1 .1 .1 .0), (first-ready (questionOf (entry .table .now) (entry .frame) (entry .order .now)) (entry .from) (entry .count) (entry .asking) (entry .flags .now) _ (stands-whole .result) (known .1 .1) (omega (arith, if2 .left, known .1 .1 .some)) (stands-whole .ensures) (if1 .left))))
+    let if2 = c .before .before .before .if2 in (
+      omega (arith, known .0, known .1 .1 .some, if2 .left),
+      (
+        relent _ (known .1 .0) (stands-whole .kept .1 .1 .1 .0),
+        (first-ready (questionOf (entry .table .now) (entry .frame) (entry .order .now)) (entry .from) (entry .count) (entry .asking)
+            (entry .flags .now) _ (stands-whole .result) (known .1 .1) (omega (arith, if2 .left, known .1 .1 .some)) (stands-whole .ensures) (if1 .left)),
+      ),
+    )
 
-halve-relaxation-halve-relaxation-requires-2 : (t : ℕ) → halve-relaxation-lts.Need-halve-relaxation-requires-2 (calls t) (halve-relaxation-at t) halve-relaxation.Post
+halve-relaxation-halve-relaxation-requires-2 :
+    (t : ℕ) → halve-relaxation-lts.Need-halve-relaxation-requires-2 (calls t) (halve-relaxation-at t) halve-relaxation.Post
 halve-relaxation-halve-relaxation-requires-2 t c κs =
-    let entry = c .before .before .before .before .before .before .before .before .before .before .before .before .before .before .before .before .before .before .before .before .before .before .args in
-    let known = c .before .before .before .before .before .before .before .before .before .before .before .before .before .before .before .before .before .before .before .before .before .before .pre in
-    let stands-whole = c .before .before .before .before .before .before .before .before .before .before .before .before .before .before .before .stands-whole in
+    let entry =
+    c .before .before .before .before .before .before .before .before .before .before .before
+    .before .before .before .before .before .before .before .before .before .before .before .args in
+    let known =
+    c .before .before .before .before .before .before .before .before .before .before .before
+    .before .before .before .before .before .before .before .before .before .before .before .pre in
+    let stands-whole =
+    c .before .before .before .before .before .before .before .before .before .before .before .before .before .before .before .stands-whole in
     let if1 = c .before .before .before .before .before .before .before .before .before .before .before .before .if1 in
     let if2 = c .before .before .before .before .before .before .before .before .before .before .if2 in
-    let halve-relaxation = c .before .before .before .before .before .before .halve-relaxation in
-    (omega (arith, known .0, known .1 .1 .some, if2 .left), (relent _ (known .1 .0) ((halve-relaxation .kept .1 .1 .1 .0) ∙ (stands-whole .kept .1 .1 .1 .0)), (second-ready (questionOf (entry .table .now) (entry .frame) (entry .order .now)) (entry .from) (entry .count) (entry .asking) (entry .flags .now) _ (stands-whole .result) (known .1 .1) (omega (arith, if2 .left, known .1 .1 .some)) (stands-whole .ensures) (if1 .left) _ _ _ (halve-relaxation .ensures))))
+    let halve-relaxation = c .before .before .before .before .before .before .halve-relaxation in (
+      omega (arith, known .0, known .1 .1 .some, if2 .left),
+      (
+        relent _ (known .1 .0) ((halve-relaxation .kept .1 .1 .1 .0) ∙ (stands-whole .kept .1 .1 .1 .0)),
+        (second-ready (questionOf (entry .table .now) (entry .frame) (entry .order .now)) (entry .from)
+            (entry .count) (entry .asking) (entry .flags .now) _ (stands-whole .result) (known .1 .1)
+            (omega (arith, if2 .left, known .1 .1 .some)) (stands-whole .ensures) (if1 .left) _ _ _ (halve-relaxation .ensures)),
+      ),
+    )
 
 halve-relaxation-add-t31 : (t : ℕ) → halve-relaxation-lts.Need-add-t31 (calls t) (halve-relaxation-at t) halve-relaxation.Post
 halve-relaxation-add-t31 t c =
-    let entry = c .before .before .before .before .before .before .before .before .before .before .before .before .before .before .before .before .before .before .before .before .before .before .before .before .before .before .before .args in
-    let known = c .before .before .before .before .before .before .before .before .before .before .before .before .before .before .before .before .before .before .before .before .before .before .before .before .before .before .before .pre in
-    let stands-whole = c .before .before .before .before .before .before .before .before .before .before .before .before .before .before .before .before .before .before .before .before .stands-whole in
+    let entry =
+    c .before .before .before .before .before .before .before .before .before .before .before .before .before .before
+    .before .before .before .before .before .before .before .before .before .before .before .before .before .args in
+    let known =
+    c .before .before .before .before .before .before .before .before .before .before .before .before .before .before
+    .before .before .before .before .before .before .before .before .before .before .before .before .before .pre in
+    let stands-whole =
+    c .before .before .before .before .before .before .before .before .before .before .before
+    .before .before .before .before .before .before .before .before .before .stands-whole in
     let if1 = c .before .before .before .before .before .before .before .before .before .before .before .before .before .before .before .before .before .if1 in
-    let questions = c .before .before .before .before .before .before .before .before .before .before .before .before .before .before .before .before .questions in
+    let questions =
+    c .before .before .before .before .before .before .before .before .before .before .before .before .before .before .before .before .questions in
     let if2 = c .before .before .before .before .before .before .before .before .before .before .before .before .before .before .before .if2 in
     let halve-relaxation = c .before .before .before .before .before .before .before .before .before .before .before .halve-relaxation in
-    omega (arith, (out-within (entry .from) (entry .count) (entry .flags .now) (known .1 .1)), (few-in-relaxation (questionOf (entry .table .now) (entry .frame) (entry .order .now)) _ _ _ _ _ _ _ (first-ready (questionOf (entry .table .now) (entry .frame) (entry .order .now)) (entry .from) (entry .count) (entry .asking) (entry .flags .now) _ (stands-whole .result) (known .1 .1) (omega (arith, if2 .left, known .1 .1 .some)) (stands-whole .ensures) (if1 .left)) (halve-relaxation .ensures)), (few-in-relaxation (questionOf (entry .table .now) (entry .frame) (entry .order .now)) _ _ _ _ _ _ _ (second-ready (questionOf (entry .table .now) (entry .frame) (entry .order .now)) (entry .from) (entry .count) (entry .asking) (entry .flags .now) _ (stands-whole .result) (known .1 .1) (omega (arith, if2 .left, known .1 .1 .some)) (stands-whole .ensures) (if1 .left) _ _ _ (halve-relaxation .ensures)) (c .before .before .before .before .halve-relaxation2 .ensures)), known .1 .0 .few, known .1 .0 .each, one-question (entry .asking) (questions .result) (questions .ensures))
+    let question = questionOf (entry .table .now) (entry .frame) (entry .order .now) in
+    let first =
+    first-ready question (entry .from) (entry .count) (entry .asking) (entry .flags .now) _ (stands-whole .result) (known .1 .1)
+    (omega (arith, if2 .left, known .1 .1 .some)) (stands-whole .ensures) (if1 .left) in
+    let second =
+    second-ready question (entry .from) (entry .count) (entry .asking) (entry .flags .now) _ (stands-whole .result) (known .1 .1)
+    (omega (arith, if2 .left, known .1 .1 .some)) (stands-whole .ensures) (if1 .left) _ _ _ (halve-relaxation .ensures) in
+    omega (
+      arith,
+      (out-within (entry .from) (entry .count) (entry .flags .now) (known .1 .1)),
+      few-in-relaxation question _ _ _ _ _ _ _ first (halve-relaxation .ensures),
+      few-in-relaxation question _ _ _ _ _ _ _ second (c .before .before .before .before .halve-relaxation2 .ensures),
+      known .1 .0 .few,
+      known .1 .0 .each,
+      one-question (entry .asking) (questions .result) (questions .ensures),
+    )
 
 halve-relaxation-add-t32 : (t : ℕ) → halve-relaxation-lts.Need-add-t32 (calls t) (halve-relaxation-at t) halve-relaxation.Post
 halve-relaxation-add-t32 t c =
-    let entry = c .before .before .before .before .before .before .before .before .before .before .before .before .before .before .before .before .before .before .before .before .before .before .before .before .before .before .before .before .before .args in
-    let known = c .before .before .before .before .before .before .before .before .before .before .before .before .before .before .before .before .before .before .before .before .before .before .before .before .before .before .before .before .before .pre in
-    let stands-whole = c .before .before .before .before .before .before .before .before .before .before .before .before .before .before .before .before .before .before .before .before .before .before .stands-whole in
-    let if1 = c .before .before .before .before .before .before .before .before .before .before .before .before .before .before .before .before .before .before .before .if1 in
-    let questions = c .before .before .before .before .before .before .before .before .before .before .before .before .before .before .before .before .before .before .questions in
+    let entry =
+    c .before .before .before .before .before .before .before .before .before .before .before .before .before .before .before
+    .before .before .before .before .before .before .before .before .before .before .before .before .before .before .args in
+    let known =
+    c .before .before .before .before .before .before .before .before .before .before .before .before .before .before .before
+    .before .before .before .before .before .before .before .before .before .before .before .before .before .before .pre in
+    let stands-whole =
+    c .before .before .before .before .before .before .before .before .before .before .before .before
+    .before .before .before .before .before .before .before .before .before .before .stands-whole in
+    let if1 =
+    c .before .before .before .before .before .before .before .before .before .before
+    .before .before .before .before .before .before .before .before .before .if1 in
+    let questions =
+    c .before .before .before .before .before .before .before .before .before .before
+    .before .before .before .before .before .before .before .before .questions in
     let if2 = c .before .before .before .before .before .before .before .before .before .before .before .before .before .before .before .before .before .if2 in
     let halve-relaxation = c .before .before .before .before .before .before .before .before .before .before .before .before .before .halve-relaxation in
     let halve-relaxation2 = c .before .before .before .before .before .before .halve-relaxation2 in
-    omega (arith, (out-within (entry .from) (entry .count) (entry .flags .now) (known .1 .1)), (few-in-relaxation (questionOf (entry .table .now) (entry .frame) (entry .order .now)) _ _ _ _ _ _ _ (first-ready (questionOf (entry .table .now) (entry .frame) (entry .order .now)) (entry .from) (entry .count) (entry .asking) (entry .flags .now) _ (stands-whole .result) (known .1 .1) (omega (arith, if2 .left, known .1 .1 .some)) (stands-whole .ensures) (if1 .left)) (halve-relaxation .ensures)), (few-in-relaxation (questionOf (entry .table .now) (entry .frame) (entry .order .now)) _ _ _ _ _ _ _ (second-ready (questionOf (entry .table .now) (entry .frame) (entry .order .now)) (entry .from) (entry .count) (entry .asking) (entry .flags .now) _ (stands-whole .result) (known .1 .1) (omega (arith, if2 .left, known .1 .1 .some)) (stands-whole .ensures) (if1 .left) _ _ _ (halve-relaxation .ensures)) (halve-relaxation2 .ensures)), known .1 .0 .few, known .1 .0 .each, one-question (entry .asking) (questions .result) (questions .ensures))
+    let question = questionOf (entry .table .now) (entry .frame) (entry .order .now) in
+    let first =
+    first-ready question (entry .from) (entry .count) (entry .asking) (entry .flags .now) _ (stands-whole .result) (known .1 .1)
+    (omega (arith, if2 .left, known .1 .1 .some)) (stands-whole .ensures) (if1 .left) in
+    let second =
+    second-ready question (entry .from) (entry .count) (entry .asking) (entry .flags .now) _ (stands-whole .result) (known .1 .1)
+    (omega (arith, if2 .left, known .1 .1 .some)) (stands-whole .ensures) (if1 .left) _ _ _ (halve-relaxation .ensures) in
+    omega (
+      arith,
+      (out-within (entry .from) (entry .count) (entry .flags .now) (known .1 .1)),
+      few-in-relaxation question _ _ _ _ _ _ _ first (halve-relaxation .ensures),
+      few-in-relaxation question _ _ _ _ _ _ _ second (halve-relaxation2 .ensures),
+      known .1 .0 .few,
+      known .1 .0 .each,
+      one-question (entry .asking) (questions .result) (questions .ensures),
+    )
 
 halve-relaxation-add-t33 : (t : ℕ) → halve-relaxation-lts.Need-add-t33 (calls t) (halve-relaxation-at t) halve-relaxation.Post
 halve-relaxation-add-t33 t c =
-    let entry = c .before .before .before .before .before .before .before .before .before .before .before .before .before .before .before .before .before .before .before .before .before .before .before .before .before .before .before .before .before .args in
-    let known = c .before .before .before .before .before .before .before .before .before .before .before .before .before .before .before .before .before .before .before .before .before .before .before .before .before .before .before .before .before .pre in
-    let stands-whole = c .before .before .before .before .before .before .before .before .before .before .before .before .before .before .before .before .before .before .before .before .before .before .stands-whole in
-    let if1 = c .before .before .before .before .before .before .before .before .before .before .before .before .before .before .before .before .before .before .before .if1 in
-    let questions = c .before .before .before .before .before .before .before .before .before .before .before .before .before .before .before .before .before .before .questions in
+    let entry =
+    c .before .before .before .before .before .before .before .before .before .before .before .before .before .before .before
+    .before .before .before .before .before .before .before .before .before .before .before .before .before .before .args in
+    let known =
+    c .before .before .before .before .before .before .before .before .before .before .before .before .before .before .before
+    .before .before .before .before .before .before .before .before .before .before .before .before .before .before .pre in
+    let stands-whole =
+    c .before .before .before .before .before .before .before .before .before .before .before .before
+    .before .before .before .before .before .before .before .before .before .before .stands-whole in
+    let if1 =
+    c .before .before .before .before .before .before .before .before .before .before
+    .before .before .before .before .before .before .before .before .before .if1 in
+    let questions =
+    c .before .before .before .before .before .before .before .before .before .before
+    .before .before .before .before .before .before .before .before .questions in
     let if2 = c .before .before .before .before .before .before .before .before .before .before .before .before .before .before .before .before .before .if2 in
     let halve-relaxation = c .before .before .before .before .before .before .before .before .before .before .before .before .before .halve-relaxation in
     let halve-relaxation2 = c .before .before .before .before .before .before .halve-relaxation2 in
-    omega (arith, (out-within (entry .from) (entry .count) (entry .flags .now) (known .1 .1)), (few-in-relaxation (questionOf (entry .table .now) (entry .frame) (entry .order .now)) _ _ _ _ _ _ _ (first-ready (questionOf (entry .table .now) (entry .frame) (entry .order .now)) (entry .from) (entry .count) (entry .asking) (entry .flags .now) _ (stands-whole .result) (known .1 .1) (omega (arith, if2 .left, known .1 .1 .some)) (stands-whole .ensures) (if1 .left)) (halve-relaxation .ensures)), (few-in-relaxation (questionOf (entry .table .now) (entry .frame) (entry .order .now)) _ _ _ _ _ _ _ (second-ready (questionOf (entry .table .now) (entry .frame) (entry .order .now)) (entry .from) (entry .count) (entry .asking) (entry .flags .now) _ (stands-whole .result) (known .1 .1) (omega (arith, if2 .left, known .1 .1 .some)) (stands-whole .ensures) (if1 .left) _ _ _ (halve-relaxation .ensures)) (halve-relaxation2 .ensures)), known .1 .0 .few, known .1 .0 .each, one-question (entry .asking) (questions .result) (questions .ensures))
+    let question = questionOf (entry .table .now) (entry .frame) (entry .order .now) in
+    let first =
+    first-ready question (entry .from) (entry .count) (entry .asking) (entry .flags .now) _ (stands-whole .result) (known .1 .1)
+    (omega (arith, if2 .left, known .1 .1 .some)) (stands-whole .ensures) (if1 .left) in
+    let second =
+    second-ready question (entry .from) (entry .count) (entry .asking) (entry .flags .now) _ (stands-whole .result) (known .1 .1)
+    (omega (arith, if2 .left, known .1 .1 .some)) (stands-whole .ensures) (if1 .left) _ _ _ (halve-relaxation .ensures) in
+    omega (
+      arith,
+      (out-within (entry .from) (entry .count) (entry .flags .now) (known .1 .1)),
+      few-in-relaxation question _ _ _ _ _ _ _ first (halve-relaxation .ensures),
+      few-in-relaxation question _ _ _ _ _ _ _ second (halve-relaxation2 .ensures),
+      known .1 .0 .few,
+      known .1 .0 .each,
+      one-question (entry .asking) (questions .result) (questions .ensures),
+    )
 
 halve-relaxation-same-length-3 : (t : ℕ) → halve-relaxation-lts.Need-same-length-3 (calls t) (halve-relaxation-at t) halve-relaxation.Post
 halve-relaxation-same-length-3 t c =
-    let stands-whole = c .before .before .before .before .before .before .before .before .before .before .before .before .before .before .before .before .before .before .before .before .before .before .stands-whole in
+    let stands-whole =
+    c .before .before .before .before .before .before .before .before .before .before .before .before
+    .before .before .before .before .before .before .before .before .before .before .stands-whole in
     let halve-relaxation = c .before .before .before .before .before .before .before .before .before .before .before .before .before .halve-relaxation in
     let halve-relaxation2 = c .before .before .before .before .before .before .halve-relaxation2 in
     (halve-relaxation2 .kept .1 .1 .1 .0) ∙ (halve-relaxation .kept .1 .1 .1 .0) ∙ (stands-whole .kept .1 .1 .1 .0)
 
 halve-relaxation-returns-3 : (t : ℕ) → halve-relaxation-lts.Need-returns-3 (calls t) (halve-relaxation-at t) halve-relaxation.Post
 halve-relaxation-returns-3 t c =
-    let entry = c .before .before .before .before .before .before .before .before .before .before .before .before .before .before .before .before .before .before .before .before .before .before .before .before .before .before .before .before .before .args in
-    let known = c .before .before .before .before .before .before .before .before .before .before .before .before .before .before .before .before .before .before .before .before .before .before .before .before .before .before .before .before .before .pre in
-    let stands-whole = c .before .before .before .before .before .before .before .before .before .before .before .before .before .before .before .before .before .before .before .before .before .before .stands-whole in
-    let if1 = c .before .before .before .before .before .before .before .before .before .before .before .before .before .before .before .before .before .before .before .if1 in
-    let questions = c .before .before .before .before .before .before .before .before .before .before .before .before .before .before .before .before .before .before .questions in
+    let entry =
+    c .before .before .before .before .before .before .before .before .before .before .before .before .before .before .before
+    .before .before .before .before .before .before .before .before .before .before .before .before .before .before .args in
+    let known =
+    c .before .before .before .before .before .before .before .before .before .before .before .before .before .before .before
+    .before .before .before .before .before .before .before .before .before .before .before .before .before .before .pre in
+    let stands-whole =
+    c .before .before .before .before .before .before .before .before .before .before .before .before
+    .before .before .before .before .before .before .before .before .before .before .stands-whole in
+    let if1 =
+    c .before .before .before .before .before .before .before .before .before .before
+    .before .before .before .before .before .before .before .before .before .if1 in
+    let questions =
+    c .before .before .before .before .before .before .before .before .before .before
+    .before .before .before .before .before .before .before .before .questions in
     let if2 = c .before .before .before .before .before .before .before .before .before .before .before .before .before .before .before .before .before .if2 in
     let halve-relaxation = c .before .before .before .before .before .before .before .before .before .before .before .before .before .halve-relaxation in
     let halve-relaxation2 = c .before .before .before .before .before .before .halve-relaxation2 in
-    is-cut (questionOf (entry .table .now) (entry .frame) (entry .order .now)) (entry .from) (entry .count) (entry .asking) (entry .flags .now) _ (stands-whole .result) (stands-whole .ensures) (if1 .left) (questions .result) (questions .ensures) (omega (arith, if2 .left, known .1 .1 .some)) _ _ _ _ _ _ (halve-relaxation .ensures) (halve-relaxation2 .ensures)
+    is-cut (questionOf (entry .table .now) (entry .frame) (entry .order .now)) (entry .from) (entry .count) (entry .asking)
+    (entry .flags .now) _ (stands-whole .result) (stands-whole .ensures) (if1 .left) (questions .result) (questions .ensures)
+    (omega (arith, if2 .left, known .1 .1 .some)) _ _ _ _ _ _ (halve-relaxation .ensures) (halve-relaxation2 .ensures)
 
 pub +halve-relaxation-spec : {M : Type 1} → statement M
 +halve-relaxation-spec = close μ-halve-relaxation λ t. halve-relaxation-lts.spec (calls t)

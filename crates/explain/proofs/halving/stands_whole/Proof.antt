@@ -10,7 +10,8 @@ use Rattle.explain.proofs.halving.stands_whole.Tie as tie
 returns : tie.Need-returns
 returns c =
     let entry = c .before .before .before .before .args in
-    not-tried (questionOf (entry .table .now) (entry .frame) (entry .order .now)) (entry .from) (entry .count) (entry .asking) (entry .flags .now) (not-true _ (c .if1 .taken))
+    not-tried (questionOf (entry .table .now) (entry .frame) (entry .order .now))
+    (entry .from) (entry .count) (entry .asking) (entry .flags .now) (not-true _ (c .if1 .taken))
 
 fill-requires : tie.Need-fill-requires
 fill-requires c κs =
@@ -29,7 +30,8 @@ returns-2 c =
     let entry = c .before .before .before .before .before .before .before .before .before .before .before .before .before .args in
     let if1 = c .before .before .before .before .before .before .before .before .before .if1 in
     let fill = c .before .before .before .before .before .before .before .fill in
-    tried-and-kept (questionOf (entry .table .now) (entry .frame) (entry .order .now)) (entry .from) (entry .count) (entry .asking) (entry .flags .now) (not-false _ (if1 .left)) _ (c .before .ask .result) (fill .ensures) (c .before .ask .ensures) (c .if2 .taken)
+    tried-and-kept (questionOf (entry .table .now) (entry .frame) (entry .order .now)) (entry .from) (entry .count) (entry .asking)
+    (entry .flags .now) (not-false _ (if1 .left)) _ (c .before .ask .result) (fill .ensures) (c .before .ask .ensures) (c .if2 .taken)
 
 fill-requires-2 : tie.Need-fill-requires-2
 fill-requires-2 c κs =
@@ -43,11 +45,14 @@ same-length-2 c = search needs
 
 returns-3 : tie.Need-returns-3
 returns-3 c =
-    let entry = c .before .before .before .before .before .before .before .before .before .before .before .before .before .before .before .before .before .args in
+    let entry =
+    c .before .before .before .before .before .before .before .before .before .before .before .before .before .before .before .before .before .args in
     let if1 = c .before .before .before .before .before .before .before .before .before .before .before .before .before .if1 in
     let fill = c .before .before .before .before .before .before .before .before .before .before .before .fill in
     let ask = c .before .before .before .before .before .ask in
-    tried-and-left-out (questionOf (entry .table .now) (entry .frame) (entry .order .now)) (entry .from) (entry .count) (entry .asking) (entry .flags .now) (not-false _ (if1 .left)) _ (ask .result) (fill .ensures) (ask .ensures) _ (c .before .before .fill2 .ensures) (c .before .before .before .before .if2 .left)
+    tried-and-left-out (questionOf (entry .table .now) (entry .frame) (entry .order .now)) (entry .from)
+    (entry .count) (entry .asking) (entry .flags .now) (not-false _ (if1 .left)) _ (ask .result) (fill .ensures)
+    (ask .ensures) _ (c .before .before .fill2 .ensures) (c .before .before .before .before .if2 .left)
 
 pub stands-whole-spec : {M : Type 1} → statement M
 stands-whole-spec =

@@ -9,7 +9,8 @@ use Rattle.explain.proofs.one_by_one.add_one_by_one.Statement.{statemen
 use Rattle.explain.proofs.one_by_one.add_one_by_one.Tie as tie
 
 abbrev Inv-loop : tie.InvT-loop
-Inv-loop table frame order flags₀ chosen₀ places₀ count asked₀ place₀ flags chosen places asked place = Adding (questionOf table frame order) count flags asked place
+Inv-loop table frame order flags₀ chosen₀ places₀ count asked₀ place₀ flags chosen places asked place =
+    Adding (questionOf table frame order) count flags asked place
 
 abbrev μ-loop : tie.MeasureT-loop
 μ-loop table frame order flags₀ chosen₀ places₀ count asked₀ place₀ flags chosen places asked place = count - place
@@ -50,7 +51,8 @@ loop-again : tie.Need-loop-again Inv-loop μ-loop
 loop-again c =
     let entry = c .before .before .before .before .before .before .before .before .before .before .before .before .before .args in
     let loop = c .before .before .before .before .before .loop in
-    adding-turns (questionOf (entry .table .now) (entry .frame) (entry .order .now)) _ (loop .flags) (loop .asked) (loop .place) (loop .inv) (c .before .before .before .before .loop-test .taken) (c .ask .result) (c .ask .ensures)
+    adding-turns (questionOf (entry .table .now) (entry .frame) (entry .order .now)) _ (loop .flags) (loop .asked)
+    (loop .place) (loop .inv) (c .before .before .before .before .loop-test .taken) (c .ask .result) (c .ask .ensures)
 
 same-length : tie.Need-same-length Inv-loop μ-loop
 same-length c = c .before .loop .inv .long
@@ -58,7 +60,8 @@ same-length c = c .before .loop .inv .long
 returns : tie.Need-returns Inv-loop μ-loop
 returns c =
     let entry = c .before .before .before .before .before .before .before .before .before .args in
-    adding-done (questionOf (entry .table .now) (entry .frame) (entry .order .now)) _ (c .before .loop .flags) (c .before .loop .asked) (c .before .loop .place) (c .before .loop .inv) (c .loop-test .left)
+    adding-done (questionOf (entry .table .now) (entry .frame) (entry .order .now)) _ (c .before .loop .flags)
+    (c .before .loop .asked) (c .before .loop .place) (c .before .loop .inv) (c .loop-test .left)
 
 pub add-one-by-one-spec : {M : Type 1} → statement M
 add-one-by-one-spec =

@@ -9,7 +9,8 @@ use Rattle.explain.proofs.one_by_one.remove_one_by_one.Statement.{state
 use Rattle.explain.proofs.one_by_one.remove_one_by_one.Tie as tie
 
 abbrev Inv-loop : tie.InvT-loop
-Inv-loop table frame order flags₀ chosen₀ places₀ count asked₀ left₀ flags chosen places asked left = Removing (questionOf table frame order) count flags asked left
+Inv-loop table frame order flags₀ chosen₀ places₀ count asked₀ left₀ flags chosen places asked left =
+    Removing (questionOf table frame order) count flags asked left
 
 abbrev μ-loop : tie.MeasureT-loop
 μ-loop table frame order flags₀ chosen₀ places₀ count asked₀ left₀ flags chosen places asked left = left
@@ -50,7 +51,8 @@ loop-again : tie.Need-loop-again Inv-loop μ-loop
 loop-again c =
     let entry = c .before .before .before .before .before .before .before .before .before .before .before .before .before .args in
     let loop = c .before .before .before .before .before .loop in
-    removing-turns (questionOf (entry .table .now) (entry .frame) (entry .order .now)) _ (loop .flags) (loop .asked) (loop .left) (loop .inv) (c .before .before .before .before .loop-test .taken) (c .ask .result) (c .ask .ensures)
+    removing-turns (questionOf (entry .table .now) (entry .frame) (entry .order .now)) _ (loop .flags) (loop .asked)
+    (loop .left) (loop .inv) (c .before .before .before .before .loop-test .taken) (c .ask .result) (c .ask .ensures)
 
 same-length : tie.Need-same-length Inv-loop μ-loop
 same-length c = c .before .loop .inv .long
@@ -58,7 +60,8 @@ same-length c = c .before .loop .inv .long
 returns : tie.Need-returns Inv-loop μ-loop
 returns c =
     let entry = c .before .before .before .before .before .before .before .before .before .args in
-    removing-done (questionOf (entry .table .now) (entry .frame) (entry .order .now)) _ (c .before .loop .flags) (c .before .loop .asked) (c .before .loop .left) (c .before .loop .inv) (c .loop-test .left)
+    removing-done (questionOf (entry .table .now) (entry .frame) (entry .order .now)) _ (c .before .loop .flags)
+    (c .before .loop .asked) (c .before .loop .left) (c .before .loop .inv) (c .loop-test .left)
 
 pub remove-one-by-one-spec : {M : Type 1} → statement M
 remove-one-by-one-spec =

@@ -17,7 +17,8 @@ use Rattle.meaning.proofs.literals.with_literal.Reads as with-literal-r
 use Rattle.table.proofs.words.number.Reads as number-reads
 
 abbrev Inv-loop : tie.InvT-loop
-Inv-loop table from count values state₀ at₀ left₀ state at left = (at + 2 * left ≡ from + 2 * count) × (every (within 0 (2 * length values)) (words left table at) ≡ true) × Scanned values table from count at left state
+Inv-loop table from count values state₀ at₀ left₀ state at left =
+    (at + 2 * left ≡ from + 2 * count) × (every (within 0 (2 * length values)) (words left table at) ≡ true) × Scanned values table from count at left state
 
 abbrev μ-loop : tie.MeasureT-loop
 μ-loop table from count values state₀ at₀ left₀ state at left = left
@@ -42,7 +43,8 @@ returns : tie.Need-returns Inv-loop μ-loop
 returns c =
     let loop = c .before .before .before .before .loop in
     let number = c .before .before .number in
-    scanned-true _ _ _ _ (loop .at) (loop .left) (loop .state) (loop .inv .2) (c .before .before .before .loop-test .taken) (number .result) (c .before .literal-state .result) (number .ensures .0) (c .before .literal-state .ensures) (c .if1 .taken)
+    scanned-true _ _ _ _ (loop .at) (loop .left) (loop .state) (loop .inv .2) (c .before .before .before .loop-test .taken)
+    (number .result) (c .before .literal-state .result) (number .ensures .0) (c .before .literal-state .ensures) (c .if1 .taken)
 
 -- src/literals.rt:57:9
 with-literal-requires : tie.Need-with-literal-requires Inv-loop μ-loop
@@ -67,8 +69,12 @@ loop-again c =
     let loop = c .before .before .before .before .before .loop in
     let loop-test = c .before .before .before .before .loop-test in
     let number = c .before .before .before .number in
-    let literal-state = c .before .before .literal-state in
-    (omega arith, literal-named (entry .table .now) (loop .at) (loop .left) (loop-test .taken) _ (loop .inv .1) .1, scanned-turn _ _ _ _ (loop .at) (loop .left) (loop .state) (loop .inv .2) (loop-test .taken) (number .result) (literal-state .result) (number .ensures .0) (literal-state .ensures) (c .before .if1 .left) (c .with-literal .result) (c .with-literal .ensures))
+    let literal-state = c .before .before .literal-state in (
+      omega arith,
+      literal-named (entry .table .now) (loop .at) (loop .left) (loop-test .taken) _ (loop .inv .1) .1,
+      scanned-turn _ _ _ _ (loop .at) (loop .left) (loop .state) (loop .inv .2) (loop-test .taken) (number .result) (literal-state .result)
+          (number .ensures .0) (literal-state .ensures) (c .before .if1 .left) (c .with-literal .result) (c .with-literal .ensures),
+    )
 
 -- src/literals.rt:45:1
 returns-2 : tie.Need-returns-2 Inv-loop μ-loop

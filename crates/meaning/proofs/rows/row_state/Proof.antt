@@ -47,7 +47,8 @@ returns c =
     let entry = c .before .before .before .before .before .before .args in
     let known = c .before .before .before .before .before .before .pre in
     let number = c .before .before .before .number in
-    clause-tested (entry .table .now) (entry .at) _ known (number .result) (number .ensures .0) (sym (c .before .before .number2 .ensures .0) ∙ c .before .if1 .taken) _ _ (c .clause-state .ensures)
+    clause-tested (entry .table .now) (entry .at) _ known (number .result) (number .ensures .0)
+    (sym (c .before .before .number2 .ensures .0) ∙ c .before .if1 .taken) _ _ (c .clause-state .ensures)
 
 -- src/rows.rt:25:36
 add-long-number : tie.Need-add-long-number
@@ -71,15 +72,19 @@ sub-linear-state c =
     let entry = c .before .before .before .before .before .before .args in
     let known = c .before .before .before .before .before .before .pre in
     let number = c .before .before .before .number in
-    linear-long (entry .table .now) (entry .at) _ known (number .result) (number .ensures .0) (λ two. c .before .if1 .left (c .before .before .number2 .ensures .0 ∙ two)) .0
+    linear-long (entry .table .now) (entry .at) _ known (number .result) (number .ensures .0)
+    (λ two. c .before .if1 .left (c .before .before .number2 .ensures .0 ∙ two)) .0
 
 -- src/rows.rt:26:5
 linear-state-requires : tie.Need-linear-state-requires
 linear-state-requires c κs =
     let entry = c .before .before .before .before .before .before .args in
     let known = c .before .before .before .before .before .before .pre in
-    let number = c .before .before .before .number in
-    (linear-asked (entry .table .now) (entry .at) _ known (number .result) (number .ensures .0) (λ two. c .before .if1 .left (c .before .before .number2 .ensures .0 ∙ two)) (number .ensures .1), omega arith)
+    let number = c .before .before .before .number in (
+      linear-asked (entry .table .now) (entry .at) _ known (number .result) (number .ensures .0)
+          (λ two. c .before .if1 .left (c .before .before .number2 .ensures .0 ∙ two)) (number .ensures .1),
+      omega arith,
+    )
 
 -- src/rows.rt:17:1
 returns-2 : tie.Need-returns-2
@@ -87,7 +92,9 @@ returns-2 c =
     let entry = c .before .before .before .before .before .before .before .args in
     let known = c .before .before .before .before .before .before .before .pre in
     let number = c .before .before .before .before .number in
-    linear-tested (entry .table .now) (entry .at) _ known (number .result) (number .ensures .0) (λ two. c .before .before .if1 .left (c .before .before .before .number2 .ensures .0 ∙ two)) _ _ _ (c .before .long-number .ensures .0) (c .linear-state .ensures)
+    linear-tested (entry .table .now) (entry .at) _ known (number .result) (number .ensures .0)
+    (λ two. c .before .before .if1 .left (c .before .before .before .number2 .ensures .0 ∙ two)) _ _ _
+    (c .before .long-number .ensures .0) (c .linear-state .ensures)
 
 pub row-state-spec : {M : Type 1} → statement M
 row-state-spec =

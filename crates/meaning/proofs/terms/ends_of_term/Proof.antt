@@ -38,7 +38,14 @@ mul-raised c =
     let entry = c .before .before .before .before .before .before .args in
     let number = c .before .before .before .number in
     let long-number = c .before .before .long-number in
-    record { fits = omega (arith, weight-counts (long-number .result) (long-number .ensures .1) negativeOf (entry .table .now) (entry .at) (entry .values .now) (number .result) (c .times .result) _ (number .ensures .0) (long-number .ensures .0) (c .times .ensures) (negative-side (long-number .result) (long-number .ensures .1)) .1) }
+    record {
+      fits = omega (
+        arith,
+        weight-counts (long-number .result) (long-number .ensures .1) negativeOf (entry .table .now) (entry .at)
+            (entry .values .now) (number .result) (c .times .result) _ (number .ensures .0) (long-number .ensures .0)
+            (c .times .ensures) (negative-side (long-number .result) (long-number .ensures .1)) .1,
+      );
+    }
 
 -- src/terms.rt:57:9
 raised-requires : tie.Need-raised-requires
@@ -46,7 +53,9 @@ raised-requires c κs =
     let entry = c .before .before .before .before .before .before .args in
     let number = c .before .before .before .number in
     let long-number = c .before .before .long-number in
-    weight-counts (long-number .result) (long-number .ensures .1) negativeOf (entry .table .now) (entry .at) (entry .values .now) (number .result) (c .times .result) _ (number .ensures .0) (long-number .ensures .0) (c .times .ensures) (negative-side (long-number .result) (long-number .ensures .1)) .1
+    weight-counts (long-number .result) (long-number .ensures .1) negativeOf (entry .table .now) (entry .at)
+    (entry .values .now) (number .result) (c .times .result) _ (number .ensures .0) (long-number .ensures .0)
+    (c .times .ensures) (negative-side (long-number .result) (long-number .ensures .1)) .1
 
 -- src/terms.rt:58:43
 sub-times : tie.Need-sub-times
@@ -62,7 +71,14 @@ mul-raised-2 c =
     let entry = c .before .before .before .before .before .before .before .before .args in
     let number = c .before .before .before .before .before .number in
     let long-number = c .before .before .before .before .long-number in
-    record { fits = omega (arith, weight-counts (long-number .result) (long-number .ensures .1) positiveOf (entry .table .now) (entry .at) (entry .values .now) (number .result) (c .times2 .result) _ (number .ensures .0) (long-number .ensures .0) (c .times2 .ensures) (positive-side (long-number .result) (long-number .ensures .1)) .1) }
+    record {
+      fits = omega (
+        arith,
+        weight-counts (long-number .result) (long-number .ensures .1) positiveOf (entry .table .now) (entry .at)
+            (entry .values .now) (number .result) (c .times2 .result) _ (number .ensures .0) (long-number .ensures .0)
+            (c .times2 .ensures) (positive-side (long-number .result) (long-number .ensures .1)) .1,
+      );
+    }
 
 -- src/terms.rt:58:9
 raised-requires-2 : tie.Need-raised-requires-2
@@ -70,7 +86,9 @@ raised-requires-2 c κs =
     let entry = c .before .before .before .before .before .before .before .before .args in
     let number = c .before .before .before .before .before .number in
     let long-number = c .before .before .before .before .long-number in
-    weight-counts (long-number .result) (long-number .ensures .1) positiveOf (entry .table .now) (entry .at) (entry .values .now) (number .result) (c .times2 .result) _ (number .ensures .0) (long-number .ensures .0) (c .times2 .ensures) (positive-side (long-number .result) (long-number .ensures .1)) .1
+    weight-counts (long-number .result) (long-number .ensures .1) positiveOf (entry .table .now) (entry .at)
+    (entry .values .now) (number .result) (c .times2 .result) _ (number .ensures .0) (long-number .ensures .0)
+    (c .times2 .ensures) (positive-side (long-number .result) (long-number .ensures .1)) .1
 
 -- src/terms.rt:50:1
 returns : tie.Need-returns
@@ -79,7 +97,17 @@ returns c =
     let number = c .before .before .before .before .before .before .number in
     let long-number = c .before .before .before .before .before .long-number in
     let times = c .before .before .before .times in
-    term-told (entry .values .now) (entry .table .now) (entry .at) (long-number .result * times .result) (long-number .result * c .before .times2 .result) _ _ (weight-counts (long-number .result) (long-number .ensures .1) negativeOf (entry .table .now) (entry .at) (entry .values .now) (number .result) (times .result) _ (number .ensures .0) (long-number .ensures .0) (times .ensures) (negative-side (long-number .result) (long-number .ensures .1)) .0) (c .before .before .raised .ensures) (weight-counts (long-number .result) (long-number .ensures .1) positiveOf (entry .table .now) (entry .at) (entry .values .now) (number .result) (c .before .times2 .result) _ (number .ensures .0) (long-number .ensures .0) (c .before .times2 .ensures) (positive-side (long-number .result) (long-number .ensures .1)) .0) (c .raised2 .ensures)
+    let negative =
+    weight-counts (long-number .result) (long-number .ensures .1) negativeOf (entry .table .now) (entry .at) (entry .values .now)
+    (number .result) (times .result) _ (number .ensures .0) (long-number .ensures .0) (times .ensures)
+    (negative-side (long-number .result) (long-number .ensures .1)) in
+    let positive =
+    weight-counts (long-number .result) (long-number .ensures .1) positiveOf (entry .table .now) (entry .at) (entry .values .now)
+    (number .result) (c .before .times2 .result) _ (number .ensures .0) (long-number .ensures .0) (c .before .times2 .ensures)
+    (positive-side (long-number .result) (long-number .ensures .1)) in
+    term-told (entry .values .now) (entry .table .now) (entry .at)
+    (long-number .result * times .result) (long-number .result * c .before .times2 .result) _ _
+    (negative .0) (c .before .before .raised .ensures) (positive .0) (c .raised2 .ensures)
 
 pub ends-of-term-spec : {M : Type 1} → statement M
 ends-of-term-spec =

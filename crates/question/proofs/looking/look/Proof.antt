@@ -46,15 +46,19 @@ same-length-3 c = search needs
 returns-2 : tie.Need-returns-2
 returns-2 c =
     let entry = c .before .before .before .before .before .before .before .before .before .before .args in
-    none-open _ (entry .values .now) _ (entry .places .now) _ _ (c .before .before .before .before .narrow-unless-blind .ensures) (c .before .if1 .left) (c .if2 .taken)
+    none-open _ (entry .values .now) _ (entry .places .now) _ _
+    (c .before .before .before .before .narrow-unless-blind .ensures) (c .before .if1 .left) (c .if2 .taken)
 
 -- src/looking.rt:46:9
 choose-requires : tie.Need-choose-requires
 choose-requires c κs =
     let entry = c .before .before .before .before .before .before .before .before .before .before .before .before .args in
     let known = c .before .before .before .before .before .before .before .before .before .before .before .before .pre in
-    let narrow-unless-blind = c .before .before .before .before .before .before .narrow-unless-blind in
-    (asked-open _ (entry .places .now) _ _ _ _ (narrow-unless-blind .ensures .rearranged) (narrow-unless-blind .kept .1 .0) (c .before .before .before .if1 .left) (known .0), known .1)
+    let narrow-unless-blind = c .before .before .before .before .before .before .narrow-unless-blind in (
+      asked-open _ (entry .places .now) _ _ _ _ (narrow-unless-blind .ensures .rearranged)
+          (narrow-unless-blind .kept .1 .0) (c .before .before .before .if1 .left) (known .0),
+      known .1,
+    )
 
 -- src/looking.rt:50:9
 same-length-4 : tie.Need-same-length-4
@@ -72,13 +76,16 @@ returns-3 c =
     let if1 = c .before .before .before .before .before .before .before .if1 in
     let if2 = c .before .before .before .before .before .before .if2 in
     let choose = c .before .before .before .choose in
-    rows-open _ (entry .values .now) _ (entry .places .now) _ _ (narrow-unless-blind .ensures) (if1 .left) (if2 .left) _ _ (c .if3 .taken) (choose .ensures .0 .free (c .if3 .taken)) (choose .ensures .1)
+    rows-open _ (entry .values .now) _ (entry .places .now) _ _ (narrow-unless-blind .ensures) (if1 .left)
+    (if2 .left) _ _ (c .if3 .taken) (choose .ensures .0 .free (c .if3 .taken)) (choose .ensures .1)
 
 -- src/looking.rt:56:15
 narrow-requires : tie.Need-narrow-requires
 narrow-requires c κs =
-    let entry = c .before .before .before .before .before .before .before .before .before .before .before .before .before .before .before .before .before .args in
-    let known = c .before .before .before .before .before .before .before .before .before .before .before .before .before .before .before .before .before .pre in
+    let entry =
+    c .before .before .before .before .before .before .before .before .before .before .before .before .before .before .before .before .before .args in
+    let known =
+    c .before .before .before .before .before .before .before .before .before .before .before .before .before .before .before .before .before .pre in
     let narrow-unless-blind = c .before .before .before .before .before .before .before .before .before .before .before .narrow-unless-blind in
     let if1 = c .before .before .before .before .before .before .before .before .if1 in
     asked-open _ (entry .places .now) _ _ _ _ (narrow-unless-blind .ensures .rearranged) (narrow-unless-blind .kept .1 .0) (if1 .left) (known .0)
@@ -94,10 +101,14 @@ same-length-7 c = search needs
 -- src/looking.rt:57:9
 returns-4 : tie.Need-returns-4
 returns-4 c =
-    let entry = c .before .before .before .before .before .before .before .before .before .before .before .before .before .before .before .before .before .before .before .before .before .args in
-    let narrow-unless-blind = c .before .before .before .before .before .before .before .before .before .before .before .before .before .before .before .narrow-unless-blind in
+    let entry =
+    c .before .before .before .before .before .before .before .before .before .before .before
+    .before .before .before .before .before .before .before .before .before .before .args in
+    let narrow-unless-blind =
+    c .before .before .before .before .before .before .before .before .before .before .before .before .before .before .before .narrow-unless-blind in
     let if1 = c .before .before .before .before .before .before .before .before .before .before .before .before .if1 in
-    not-met _ (entry .values .now) _ (entry .places .now) _ _ (narrow-unless-blind .ensures) (if1 .left) _ _ (c .before .before .before .narrow .ensures) (c .if4 .taken)
+    not-met _ (entry .values .now) _ (entry .places .now) _ _ (narrow-unless-blind .ensures)
+    (if1 .left) _ _ (c .before .before .before .narrow .ensures) (c .if4 .taken)
 
 -- src/looking.rt:27:1
 same-length-8 : tie.Need-same-length-8
@@ -110,12 +121,16 @@ same-length-9 c = search needs
 -- src/looking.rt:27:1
 returns-5 : tie.Need-returns-5
 returns-5 c =
-    let entry = c .before .before .before .before .before .before .before .before .before .before .before .before .before .before .before .before .before .before .before .before .before .args in
-    let narrow-unless-blind = c .before .before .before .before .before .before .before .before .before .before .before .before .before .before .before .narrow-unless-blind in
+    let entry =
+    c .before .before .before .before .before .before .before .before .before .before .before
+    .before .before .before .before .before .before .before .before .before .before .args in
+    let narrow-unless-blind =
+    c .before .before .before .before .before .before .before .before .before .before .before .before .before .before .before .narrow-unless-blind in
     let if1 = c .before .before .before .before .before .before .before .before .before .before .before .before .if1 in
     let choose = c .before .before .before .before .before .before .before .before .choose in
     let if3 = c .before .before .before .before .before .if3 in
-    met-all _ (entry .values .now) _ (entry .places .now) _ _ (narrow-unless-blind .ensures) (if1 .left) _ _ (c .before .before .before .narrow .ensures) (c .if4 .left) (free-below (entry .values .now) (choose .ensures .0 .none-free (if3 .left)))
+    met-all _ (entry .values .now) _ (entry .places .now) _ _ (narrow-unless-blind .ensures) (if1 .left) _ _
+    (c .before .before .before .narrow .ensures) (c .if4 .left) (free-below (entry .values .now) (choose .ensures .0 .none-free (if3 .left)))
 
 pub look-spec : {M : Type 1} → statement M
 look-spec =

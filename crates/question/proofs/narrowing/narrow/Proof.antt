@@ -13,7 +13,8 @@ use Rattle.question.proofs.narrowing.exchange.Reads as exchange-reads
 use Rattle.meaning.proofs.rows.row_state.Reads as row-state-reads
 
 abbrev Inv-loop : tie.InvT-loop
-Inv-loop table places₀ count values kept₀ next₀ places kept next = (kept ≤ next) × (next ≤ count) × (length places ≡ length places₀) × Sorted table values count places₀ places kept next
+Inv-loop table places₀ count values kept₀ next₀ places kept next =
+    (kept ≤ next) × (next ≤ count) × (length places ≡ length places₀) × Sorted table values count places₀ places kept next
 
 abbrev μ-loop : tie.MeasureT-loop
 μ-loop table places₀ count values kept₀ next₀ places kept next = count - next
@@ -65,7 +66,9 @@ returns c =
     let loop = c .before .before .before .before .before .before .before .before .loop in
     let loop-test = c .before .before .before .before .before .before .before .loop-test in
     let row-state = c .before .before .before .before .before .row-state in
-    rw (c .before .before .exchange .ensures) (row-lost _ _ _ _ (loop .places) (loop .kept) (loop .next) (loop .inv .3) (omega arith) (omega arith) (loop-test .taken) (row-state .result) (row-state .ensures) (c .before .before .before .before .if1 .taken) _ (omega arith))
+    rw (c .before .before .exchange .ensures)
+    (row-lost _ _ _ _ (loop .places) (loop .kept) (loop .next) (loop .inv .3) (omega arith) (omega arith) (loop-test .taken)
+    (row-state .result) (row-state .ensures) (c .before .before .before .before .if1 .taken) _ (omega arith))
 
 -- src/rows.rt:53:9
 exchange-requires-2 : tie.Need-exchange-requires-2 Inv-loop μ-loop
@@ -89,7 +92,13 @@ loop-again c =
     let loop = c .before .before .before .before .before .before .before .before .loop in
     let loop-test = c .before .before .before .before .before .before .before .loop-test in
     let row-state = c .before .before .before .before .before .row-state in
-    rw (c .before .before .exchange2 .ensures) (omega arith, omega arith, length-exchanged _ _ _ ∙ loop .inv .2, sorted-turn _ _ _ _ (loop .places) (loop .kept) (loop .next) (loop .inv .3) (omega arith) (omega arith) (loop-test .taken) (row-state .result) (row-state .ensures) (omega arith))
+    rw (c .before .before .exchange2 .ensures) (
+      omega arith,
+      omega arith,
+      length-exchanged _ _ _ ∙ loop .inv .2,
+      sorted-turn _ _ _ _ (loop .places) (loop .kept) (loop .next) (loop .inv .3) (omega arith)
+          (omega arith) (loop-test .taken) (row-state .result) (row-state .ensures) (omega arith),
+    )
 
 -- src/rows.rt:41:1
 same-length-2 : tie.Need-same-length-2 Inv-loop μ-loop
@@ -97,7 +106,8 @@ same-length-2 c = c .before .loop .inv .2
 
 -- src/rows.rt:41:1
 returns-2 : tie.Need-returns-2 Inv-loop μ-loop
-returns-2 c = sorted-end _ _ _ _ (c .before .loop .places) (c .before .loop .kept) (c .before .loop .next) (c .before .loop .inv .3) (omega arith) (c .loop-test .left)
+returns-2 c =
+    sorted-end _ _ _ _ (c .before .loop .places) (c .before .loop .kept) (c .before .loop .next) (c .before .loop .inv .3) (omega arith) (c .loop-test .left)
 
 pub narrow-spec : {M : Type 1} → statement M
 narrow-spec =

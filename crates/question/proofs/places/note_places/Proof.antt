@@ -15,7 +15,13 @@ use Rattle.question.proofs.places.note_places.Statement.{statement}
 use Rattle.question.proofs.places.note_places.Tie as tie
 
 abbrev Inv-loop : tie.InvT-loop
-Inv-loop table chosen places₀ at₀ left₀ noted₀ places at left noted = (f : Frame) × MayAsk table f chosen × RowsKept (f .variables) (f .requests) table left at (f .order) × (noted + left ≤ length places) × (length places ≡ length places₀) × (take noted places ++ countingPlaces (byRole chosen) left table at ≡ countingPlaces (byRole chosen) left₀ table firstRow)
+Inv-loop table chosen places₀ at₀ left₀ noted₀ places at left noted =
+    (f : Frame)
+    × MayAsk table f chosen
+    × RowsKept (f .variables) (f .requests) table left at (f .order)
+    × (noted + left ≤ length places)
+    × (length places ≡ length places₀)
+    × (take noted places ++ countingPlaces (byRole chosen) left table at ≡ countingPlaces (byRole chosen) left₀ table firstRow)
 
 abbrev μ-loop : tie.MeasureT-loop
 μ-loop table chosen places₀ at₀ left₀ noted₀ places at left noted = left
@@ -42,7 +48,12 @@ add-number c =
     omega (arith, row-here _ _ _ (c .before .loop .inv .1) _ _ (c .loop-test .taken) (c .before .loop .inv .2) .whole, known .0 .kept .short)
 
 number-requires : tie.Need-number-requires Inv-loop μ-loop
-number-requires c κs = omega (arith, row-here _ _ _ (c .before .loop .inv .1) _ _ (c .loop-test .taken) (c .before .loop .inv .2) .whole, row-long _ _ _ _ (row-here _ _ _ (c .before .loop .inv .1) _ _ (c .loop-test .taken) (c .before .loop .inv .2)))
+number-requires c κs =
+    omega (
+      arith,
+      row-here _ _ _ (c .before .loop .inv .1) _ _ (c .loop-test .taken) (c .before .loop .inv .2) .whole,
+      row-long _ _ _ _ (row-here _ _ _ (c .before .loop .inv .1) _ _ (c .loop-test .taken) (c .before .loop .inv .2)),
+    )
 
 shared-slice-read-taken-up : tie.Need-shared-slice-read-taken-up Inv-loop μ-loop
 shared-slice-read-taken-up c =
@@ -82,13 +93,24 @@ loop-again : tie.Need-loop-again Inv-loop μ-loop
 loop-again c =
     let loop = c .before .before .before .before .before .loop in
     let loop-test = c .before .before .before .before .loop-test in
-    rw (c .number2 .ensures .0) (loop .inv .0, loop .inv .1, rows-kept-turn _ _ _ _ _ _ (loop-test .taken) (loop .inv .2) .1, simp length-set (omega arith), simp length-set (loop .inv .4), note-turn _ _ _ (loop .inv .1) _ _ (loop-test .taken) (loop .inv .2) (loop .places) (loop .noted) _ _ (omega arith) (c .before .before .before .number .ensures .0) (c .before .taken-up .ensures .0) ∙ loop .inv .5)
+    rw (c .number2 .ensures .0) (
+      loop .inv .0,
+      loop .inv .1,
+      rows-kept-turn _ _ _ _ _ _ (loop-test .taken) (loop .inv .2) .1,
+      simp length-set (omega arith),
+      simp length-set (loop .inv .4),
+      note-turn _ _ _ (loop .inv .1) _ _ (loop-test .taken) (loop .inv .2) (loop .places) (loop .noted) _ _
+          (omega arith) (c .before .before .before .number .ensures .0) (c .before .taken-up .ensures .0)
+          ∙ loop .inv .5,
+    )
 
 same-length : tie.Need-same-length Inv-loop μ-loop
 same-length c = c .before .loop .inv .4
 
 returns : tie.Need-returns Inv-loop μ-loop
-returns c = all-noted _ _ _ (c .before .loop .places) (c .before .loop .at) (c .before .loop .left) (c .before .loop .noted) (c .loop-test .left) (c .before .loop .inv .3) (c .before .loop .inv .5)
+returns c =
+    all-noted _ _ _ (c .before .loop .places) (c .before .loop .at) (c .before .loop .left)
+    (c .before .loop .noted) (c .loop-test .left) (c .before .loop .inv .3) (c .before .loop .inv .5)
 
 pub note-places-spec : {M : Type 1} → statement M
 note-places-spec =

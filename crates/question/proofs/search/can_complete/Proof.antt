@@ -54,15 +54,25 @@ complete-requires c κs =
     let known = c .before .before .before .before .before .before .before .before .before .before .before .before .before .pre in
     let note-places = c .before .before .before .before .before .before .before .before .note-places in
     let copy = c .before .before .before .before .before .before .copy in
-    rw (copied (entry .values .now) (copy .last .1 .0) _ (copy .ensures .1)) (noted-asked _ (entry .frame) _ _ _ _ (known .0) (note-places .ensures) (known .1), omega arith, record { numbered = omega (arith, known .0 .kept .few-variables, known .1); each = omega (arith, known .0 .kept .few-variables, known .1); each-waiting = omega (arith, known .0 .kept .few-variables, known .1) })
+    rw (copied (entry .values .now) (copy .last .1 .0) _ (copy .ensures .1)) (
+      noted-asked _ (entry .frame) _ _ _ _ (known .0) (note-places .ensures) (known .1),
+      omega arith,
+      record {
+        numbered = omega (arith, known .0 .kept .few-variables, known .1);
+        each = omega (arith, known .0 .kept .few-variables, known .1);
+        each-waiting = omega (arith, known .0 .kept .few-variables, known .1);
+      },
+    )
 
 -- src/search.rt:67:1
 returns : tie.Need-returns
 returns c =
-    let entry = c .before .before .before .before .before .before .before .before .before .before .before .before .before .before .before .before .before .before .args in
+    let entry =
+    c .before .before .before .before .before .before .before .before .before .before .before .before .before .before .before .before .before .before .args in
     let note-places = c .before .before .before .before .before .before .before .before .before .before .before .before .before .note-places in
     let copy = c .before .before .before .before .before .before .before .before .before .before .before .copy in
-    rows-searched (entry .table .now) (entry .frame) (entry .chosen .now) _ _ (note-places .ensures) _ _ (rw (copied (entry .values .now) (copy .last .1 .0) _ (copy .ensures .1)) at (c .before .before .before .before .complete .ensures))
+    rows-searched (entry .table .now) (entry .frame) (entry .chosen .now) _ _ (note-places .ensures) _ _
+    (rw (copied (entry .values .now) (copy .last .1 .0) _ (copy .ensures .1)) at (c .before .before .before .before .complete .ensures))
 
 pub can-complete-spec : {M : Type 1} → statement M
 can-complete-spec =

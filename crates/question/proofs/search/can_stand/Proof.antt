@@ -18,7 +18,9 @@ array-share-prefix-values c = search needs
 
 -- src/search.rt:102:40
 slice-aggregate-can-complete : tie.Need-slice-aggregate-can-complete
-slice-aggregate-can-complete c = sym (length-take-le (c .before .before .before .args .frame .variables) (replicate {A = ℕ} mostVariables 2) (c .before .before .before .pre .kept .few-variables))
+slice-aggregate-can-complete c =
+    sym (length-take-le (c .before .before .before .args .frame .variables)
+    (replicate {A = ℕ} mostVariables 2) (c .before .before .before .pre .kept .few-variables))
 
 -- src/search.rt:102:5
 can-complete-requires : tie.Need-can-complete-requires
@@ -31,7 +33,9 @@ returns : tie.Need-returns
 returns c =
     let entry = c .before .before .before .before .before .args in
     let known = c .before .before .before .before .before .pre in
-    answered (entry .table .now) (entry .frame) (entry .chosen .now) _ _ (length-take-le (entry .frame .variables) (replicate {A = ℕ} mostVariables 2) (known .kept .few-variables)) (all-free mostVariables (entry .frame .variables) (known .kept .few-variables)) (c .can-complete .ensures)
+    answered (entry .table .now) (entry .frame) (entry .chosen .now) _ _
+    (length-take-le (entry .frame .variables) (replicate {A = ℕ} mostVariables 2) (known .kept .few-variables))
+    (all-free mostVariables (entry .frame .variables) (known .kept .few-variables)) (c .can-complete .ensures)
 
 pub can-stand-spec : {M : Type 1} → statement M
 can-stand-spec =
