@@ -53,7 +53,8 @@ spread-done zero number at X Y selection h some e g =
     }
 spread-done (suc left) number at X Y selection h some e g = absurd (omega arith)
 
-module _ (t : List ℕ) (f : Frame) (selection : ℕ) (X Y : List Bool) (kept : Kept t f) (each : length X ≡ f .requests + 1) (rest : ℕ) (spread : Spread (set X 0 true) Y selection rest) where
+module _ (t : List ℕ) (f : Frame) (selection : ℕ) (X Y : List Bool) (kept : Kept t f)
+    (each : length X ≡ f .requests + 1) (rest : ℕ) (spread : Spread (set X 0 true) Y selection rest) where
   count : length (set X 0 true) - 1 ≡ f .requests
   count = let e = length-set X 0 true in omega arith
 

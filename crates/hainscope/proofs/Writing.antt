@@ -49,7 +49,8 @@ load-done zero at place t X Y from h e =
     e ∙ sets-eq (words (length Y) t from) Y 0 (omega arith) ∙ rw (drop-of-length-le Y whole) (append-nil (words (length Y) t from))
 load-done (suc left) at place t X Y from h e = absurd (omega arith)
 
-module _ (t : List ℕ) (f : Frame) (kept : Kept t f) (before order : List ℕ) (each : length before ≡ f .requests) (e : order ≡ words (length before) t (f .order + 4)) where
+module _ (t : List ℕ) (f : Frame) (kept : Kept t f) (before order : List ℕ)
+    (each : length before ≡ f .requests) (e : order ≡ words (length before) t (f .order + 4)) where
   -- what was loaded is the table's order
   loaded : order ≡ orderOf t f
   loaded = e ∙ ap (λ (n : ℕ). words n t (f .order + 4)) each
@@ -83,7 +84,8 @@ module _ (t : List ℕ) (f : Frame) (kept : Kept t f) (before order : List ℕ) 
       subst (λ (x : Answer). Written (kindBy method) (x .status) (x .asked) (orderOf t f) (x .set) part after end) a
       (subst (λ (o : List ℕ). Written (kindBy method) status asked o set part after end) loaded (rw k at w))
 
-module _ (method : Method) (t : List ℕ) (f : Frame) (buffer : List ℕ) (start : ℕ) (room : Bool) (e : room ≡ (leb start (length buffer) && leb (12 + 2 * f .requests) (length buffer - start))) where
+module _ (method : Method) (t : List ℕ) (f : Frame) (buffer : List ℕ) (start : ℕ) (room : Bool)
+    (e : room ≡ (leb start (length buffer) && leb (12 + 2 * f .requests) (length buffer - start))) where
   is-room : room ≡ roomFor (f .requests) buffer start
   unfolding roomFor
   is-room = e

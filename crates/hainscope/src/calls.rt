@@ -71,7 +71,8 @@ fn one_for(yes: bool) -> u32
 // Whether the selection of an accepted table's requests can stand.
 fn can_stand_accepted(table: &[u8], frame: Frame, selection: u64, stands: &mut u32) -> u32
     requires { ⌜ Kept (now table) frame ⌝ }
-    ensures { λ r. ⌜ (r ≡ numberOfVerdict (verdictOf (now (table .entry)) frame selection)) × (now (stands .exit) ≡ standsOfVerdict (verdictOf (now (table .entry)) frame selection)) ⌝ }
+    ensures { λ r. ⌜ (r ≡ numberOfVerdict (verdictOf (now (table .entry)) frame selection))
+        × (now (stands .exit) ≡ standsOfVerdict (verdictOf (now (table .entry)) frame selection)) ⌝ }
 {
     let found = ask_selection(table, frame, selection);
     match found {

@@ -14,7 +14,9 @@ pub record Part : Type 0 where
 abbrev pub together : Part → Part → Part
 together p q = record { set = q .set; found = p .found + q .found; asked = p .asked + q .asked }
 
--- A part is entered. Where its last addition was not empty a question is asked first; by the answer the part is worked, or it is settled whole.
+-- A part is entered. Where `ask` says so, one question comes first; where its answer says that something in the part matters, or none was asked,
+-- the part is worked, and otherwise it is settled whole, with nothing found. A conflict asks where the last addition was not empty, and its part
+-- matters where the ground stands; a relaxation asks where the part is not known to fail, and its part matters where it does not stand whole.
 unfoldable pub entered : (ask matters : Bool) (settled : Selection) (worked : Part) → Part
 entered false matters settled worked = worked
 entered true true settled worked = record { set = worked .set; found = worked .found; asked = suc (worked .asked) }

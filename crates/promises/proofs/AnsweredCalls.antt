@@ -31,7 +31,11 @@ use Rattle.table.specs.Samples.{frameH}
 use Rattle.promises.proofs.Outcomes.{can-stand-refused, can-stand-answered, can-stand-too-much, report-refused, report-no-room}
 
 pub calls-hold : CallsHold
-unfolding u16At u32At i32At words total every among allDifferent kindOf isKnown isHead termAt terms clauseAt linearAt rowOf rows within termInRange rowInRange isWhole headFirst inSequence roomForRow lengthRight inRange noRepeat addsToZero nextPhase nextFrame ruleOf stepAt endingOf scan reading numberOfReading placeOfReading placeOfRecord stretchAt stretchBy numberOfStretch placeOfStretch sizeOfStretch isTrue anyOf valueOf product sumOf meets roleOf counts respects meetsAll someSetting stands all none named entered oneConflict oneRelax size treeOf halveConflict enterConflict halveRelax enterRelax answered chosenBy questionOf answerBy u16 u32 recordOf encodeNumbers reportBody reportBytes kindBy roomFor bits above namesAbove canStand
+unfolding u16At u32At i32At words total every among allDifferent kindOf isKnown isHead termAt terms clauseAt linearAt rowOf rows within termInRange
+    rowInRange isWhole headFirst inSequence roomForRow lengthRight inRange noRepeat addsToZero nextPhase nextFrame ruleOf stepAt endingOf scan reading
+    numberOfReading placeOfReading placeOfRecord stretchAt stretchBy numberOfStretch placeOfStretch sizeOfStretch isTrue anyOf valueOf product sumOf meets
+    roleOf counts respects meetsAll someSetting stands all none named entered oneConflict oneRelax size treeOf halveConflict enterConflict halveRelax
+    enterRelax answered chosenBy questionOf answerBy u16 u32 recordOf encodeNumbers reportBody reportBytes kindBy roomFor bits above namesAbove canStand
 calls-hold =
     record {
       accepted = record { number-is = refl; place-is = refl };

@@ -24,12 +24,18 @@ use Rattle.promises.specs.Reports.{kindBy, roomFor}
 use Rattle.promises.specs.Sheet.{SheetHolds, ReportsHold, lineOf, answersBy}
 
 pub sheet-holds : SheetHolds
-unfolding u16At u32At i32At words total every among allDifferent kindOf isKnown isHead termAt terms clauseAt linearAt rowOf rows within termInRange rowInRange isWhole headFirst inSequence roomForRow lengthRight inRange noRepeat addsToZero nextPhase nextFrame ruleOf stepAt endingOf scan reading isTrue anyOf valueOf product sumOf meets roleOf counts respects meetsAll someSetting stands all none named entered oneConflict oneRelax size treeOf halveConflict enterConflict halveRelax enterRelax answered chosenBy questionOf answerBy lineOf answersBy
+unfolding u16At u32At i32At words total every among allDifferent kindOf isKnown isHead termAt terms clauseAt linearAt rowOf rows within
+    termInRange rowInRange isWhole headFirst inSequence roomForRow lengthRight inRange noRepeat addsToZero nextPhase nextFrame ruleOf stepAt
+    endingOf scan reading isTrue anyOf valueOf product sumOf meets roleOf counts respects meetsAll someSetting stands all none named entered
+    oneConflict oneRelax size treeOf halveConflict enterConflict halveRelax enterRelax answered chosenBy questionOf answerBy lineOf answersBy
 sheet-holds = record { rows = refl; damaged = refl }
 
 -- three reports of the sheet as bytes in a lent buffer
 pub reports-hold : ReportsHold
-unfolding u16At u32At i32At words total every among allDifferent kindOf isKnown isHead termAt terms clauseAt linearAt rowOf rows within termInRange rowInRange isWhole headFirst inSequence roomForRow lengthRight inRange noRepeat addsToZero nextPhase nextFrame ruleOf stepAt endingOf scan reading isTrue anyOf valueOf product sumOf meets roleOf counts respects meetsAll someSetting stands all none named entered oneConflict oneRelax size treeOf halveConflict enterConflict halveRelax enterRelax answered chosenBy questionOf answerBy u16 u32 recordOf encodeNumbers reportBody reportBytes kindBy roomFor
+unfolding u16At u32At i32At words total every among allDifferent kindOf isKnown isHead termAt terms clauseAt linearAt rowOf rows within termInRange
+    rowInRange isWhole headFirst inSequence roomForRow lengthRight inRange noRepeat addsToZero nextPhase nextFrame ruleOf stepAt endingOf scan reading isTrue
+    anyOf valueOf product sumOf meets roleOf counts respects meetsAll someSetting stands all none named entered oneConflict oneRelax size treeOf halveConflict
+    enterConflict halveRelax enterRelax answered chosenBy questionOf answerBy u16 u32 recordOf encodeNumbers reportBody reportBytes kindBy roomFor
 reports-hold =
     record {
       conflict-H = record { accepted = refl; room = refl; bytes = refl; ends = refl };

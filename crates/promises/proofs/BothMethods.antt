@@ -35,7 +35,8 @@ module _ (kind status count count′ start : ℕ) (numbers front rest : List ℕ
 
   -- and behind it
   same-last-bytes :
-      drop (start + 10) (front ++ (reportBytes kind status count numbers ++ rest)) ≡ drop (start + 10) (front ++ (reportBytes kind status count′ numbers ++ rest))
+      drop (start + 10) (front ++ (reportBytes kind status count numbers ++ rest))
+      ≡ drop (start + 10) (front ++ (reportBytes kind status count′ numbers ++ rest))
   unfolding reportBytes recordOf reportBody u16 u32
   same-last-bytes = rw (← long, drop-append-add, drop-append-add)
 

@@ -109,7 +109,8 @@ module _ (t : List ℕ) (f : Frame) (e : reading t ≡ Accepted f) (buffer : Lis
       few = accepted-keeps t f e .few-requests
 
       -- what a relaxation does not name is what it drops
-      left-out : f .requests - kept (relaxationByHalving (tableQuestion t f) (f .requests) .set) ≡ dropped (relaxationByHalving (tableQuestion t f) (f .requests) .set)
+      left-out :
+          f .requests - kept (relaxationByHalving (tableQuestion t f) (f .requests) .set) ≡ dropped (relaxationByHalving (tableQuestion t f) (f .requests) .set)
       left-out =
           omega (
             arith,

@@ -18,7 +18,8 @@ use Rattle.preference.proofs.Trees.{half-cuts}
 use Rattle.preference.proofs.Selections.{length-all, length-none}
 use Rattle.preference.proofs.Conflicts.{no-conflict-where-all-stand, halving-conflict-gives-the-one-by-one-conflict, halving-conflict-is-preferred}
 use Rattle.preference.proofs.Conflicts.{halving-conflict-count-by-the-list, one-by-one-conflict-asks-nothing-else, halving-conflict-asks-nothing-else}
-use Rattle.preference.proofs.Relaxations.{no-relaxation-where-the-host-fails, halving-relaxation-gives-the-one-by-one-relaxation, halving-relaxation-is-preferred}
+use Rattle.preference.proofs.Relaxations.{no-relaxation-where-the-host-fails}
+use Rattle.preference.proofs.Relaxations.{halving-relaxation-gives-the-one-by-one-relaxation, halving-relaxation-is-preferred}
 use Rattle.preference.proofs.Relaxations.{halving-relaxation-count-by-the-list, no-relaxation-count, one-by-one-relaxation-asks-nothing-else}
 use Rattle.preference.proofs.Relaxations.{halving-relaxation-asks-nothing-else}
 use Rattle.explain.specs.declared.answers.Method.{Method}
@@ -26,7 +27,8 @@ use Rattle.explain.specs.declared.answers.Method.the-variants.{ConflictByHalvin
 use Rattle.explain.specs.Methods.{answerBy}
 use Rattle.promises.specs.Reports.{tableQuestion, roomFor}
 use Rattle.promises.specs.Calls.{RightAnswer, Left, Reported, ReportCall}
-use Rattle.promises.specs.Demands.{TablesAreReadRight, TheSetsAreRight, EveryTableHasTheRightSets, StandAlike, ReportsTellNoMore, TheCountIsBounded, EveryCountIsBounded}
+use Rattle.promises.specs.Demands.{TablesAreReadRight, TheSetsAreRight, EveryTableHasTheRightSets}
+use Rattle.promises.specs.Demands.{StandAlike, ReportsTellNoMore, TheCountIsBounded, EveryCountIsBounded}
 use Rattle.promises.proofs.Monotone.{question-is-monotone}
 use Rattle.promises.proofs.RightAnswers.{right-answer, only-one-right-answer}
 use Rattle.promises.proofs.Outcomes.{can-stand-exactly}

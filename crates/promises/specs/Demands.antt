@@ -58,9 +58,10 @@ pub record AskedInPublic (t : List ℕ) (f : Frame) (selection : ℕ) : Type 0 w
   pub names : (request : ℕ) → 0 < request → request ≤ f .requests → chosenBy (orderOf t f) places request ≡ selectionOf (f .requests) selection request
   pub same-answer : tableQuestion t f places ≡ canStand t f selection
 
--- Demand 2, of an accepted table: a selection stands exactly where some setting meets it; every lent selection is among those that the methods choose from; all requests and the host rows alone are
--- the selections 2^N - 1 and 0; halving and one by one give the same sets; there is no conflict exactly when all requests can stand
--- together, and no relaxation exactly when the host's rows cannot; where there is one, the set is the preferred one.
+-- Demand 2, of an accepted table: a selection stands exactly where some setting meets it; every lent selection is among those that the methods
+-- choose from; all requests and the host rows alone are the selections 2^N - 1 and 0; halving and one by one give the same sets; there is no
+-- conflict exactly when all requests can stand together, and no relaxation exactly when the host's rows cannot; where there is one, the set is
+-- the preferred one.
 pub record TheSetsAreRight (t : List ℕ) (f : Frame) : Type 0 where
   pub stands-exactly : (selection : ℕ) → canStand t f selection ≡ true ↔ SomeSettingMeets t f selection
   pub every-selection : (selection : ℕ) → AskedInPublic t f selection
@@ -70,8 +71,12 @@ pub record TheSetsAreRight (t : List ℕ) (f : Frame) : Type 0 where
   pub same-relaxation : relaxationByHalving (tableQuestion t f) (f .requests) .set ≡ relaxationOneByOne (tableQuestion t f) (f .requests) .set
   pub no-conflict : ((X : Selection) → Conflict (tableQuestion t f) (f .requests) X → ⊥) ↔ tableQuestion t f (all (f .requests)) ≡ true
   pub no-relaxation : ((X : Selection) → Relaxation (tableQuestion t f) (f .requests) X → ⊥) ↔ tableQuestion t f (none (f .requests)) ≡ false
-  pub conflict : tableQuestion t f (all (f .requests)) ≡ false → PreferredConflict (tableQuestion t f) (f .requests) (conflictByHalving (tableQuestion t f) (f .requests) .set)
-  pub relaxation : tableQuestion t f (none (f .requests)) ≡ true → PreferredRelaxation (tableQuestion t f) (f .requests) (relaxationByHalving (tableQuestion t f) (f .requests) .set)
+  pub conflict :
+      tableQuestion t f (all (f .requests)) ≡ false →
+      PreferredConflict (tableQuestion t f) (f .requests) (conflictByHalving (tableQuestion t f) (f .requests) .set)
+  pub relaxation :
+      tableQuestion t f (none (f .requests)) ≡ true →
+      PreferredRelaxation (tableQuestion t f) (f .requests) (relaxationByHalving (tableQuestion t f) (f .requests) .set)
 
 abbrev pub EveryTableHasTheRightSets : Type 0
 EveryTableHasTheRightSets = (t : List ℕ) (f : Frame) → reading t ≡ Accepted f → TheSetsAreRight t f

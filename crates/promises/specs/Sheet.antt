@@ -192,22 +192,25 @@ pub record ReportsHold : Type 0 where
   pub room-A : roomFor 0 (take 14 lentBuffer) lentStart ≡ true
   pub no-room-A : roomFor 0 (take 13 lentBuffer) lentStart ≡ false
 
--- what the public calls say of H, and of H damaged, in document 01's numbers: it is accepted, and refused with 9 at CHECK's first byte by every
--- call; record 6, the ORDER, has its eight bytes from 78 on, and there is no record 8, refusal 13 at the table's length; requests 1, 2 and 4 can stand; 2, 3 and 4 cannot, nor can 1, 2 and 3; request 5 is
--- above N, refusal 11; and a buffer that is a byte too short, refusal 12. A selection read one bit off would be told by its answer: with
--- request r at bit r, 7 were requests 1 and 2, and with request r at bit r-2, 14 were 3 and 4, and both of these can stand.
+-- what the public calls say of H, and of H damaged, in document 01's numbers
 pub record CallsHold : Type 0 where
+  -- H is accepted; damaged, it is refused with 9 at CHECK's first byte, by every call
   pub accepted : ReadCall tableH 0 0
   pub damaged : ReadCall damagedH 9 86
-  pub body : BodyCall tableH 6 0 8 78
-  pub no-record : BodyCall tableH 8 13 0 92
   pub damaged-body : BodyCall damagedH 6 9 0 86
   pub damaged-question : CanStandCall damagedH 11 9 0 86
   pub damaged-report : ReportCall ConflictByHalving damagedH lentBuffer lentStart 9 86 lentBuffer
+  -- record 6, the ORDER, has its eight bytes from 78 on; there is no record 8
+  pub body : BodyCall tableH 6 0 8 78
+  pub no-record : BodyCall tableH 8 13 0 92
+  -- requests 1, 2 and 4 can stand; 2, 3 and 4 cannot; request 5 is above N
   pub stand : CanStandCall tableH 11 0 1 0
   pub fall : CanStandCall tableH 14 0 0 0
+  pub above-N : CanStandCall tableH 16 11 0 0
+  -- a selection that is read one bit off is told by its answer: with request r at bit r, 7 were requests 1 and 2, which can stand, and with
+  -- request r at bit r-2, 14 were requests 3 and 4, which can
   pub fall-123 : CanStandCall tableH 7 0 0 0
   pub stand-12 : CanStandCall tableH 3 0 1 0
   pub stand-34 : CanStandCall tableH 12 0 1 0
-  pub above-N : CanStandCall tableH 16 11 0 0
+  -- a buffer that is a byte too short
   pub short : ReportCall ConflictByHalving tableH (take 21 lentBuffer) lentStart 12 0 (take 21 lentBuffer)

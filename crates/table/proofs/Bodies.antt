@@ -49,7 +49,8 @@ unfolding WholeFrom placeOfRecord
 whole-next t at l whole e = rw e (λ number h. whole (suc number) h)
 
 -- past the end the walk finds no record
-pub none-found : (t : List ℕ) (at number : ℕ) → length t ≤ at → Missing (record { number = noRecord; place = length t }) ≡ stretchAt t (placeOfRecord number t at)
+pub none-found :
+    (t : List ℕ) (at number : ℕ) → length t ≤ at → Missing (record { number = noRecord; place = length t }) ≡ stretchAt t (placeOfRecord number t at)
 unfolding stretchAt
 none-found t at number h =
     let g = place-grows number t at in rw (le-ltb (placeOfRecord number t at) (length t) (omega arith))

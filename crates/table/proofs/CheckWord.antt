@@ -9,7 +9,8 @@ use lib.IntN.{ℤ}
 use Rattle.table.specs.Words.{words, total}
 use Rattle.table.specs.Rows.{Term, Row, clause, linear}
 use Rattle.table.specs.Model.{Model}
-use Rattle.table.specs.Encoding.{u16, u32, i32, recordOf, encodeNumbers, encodeTerms, encodeRow, encodeRows, encodeHead, encodeOrder, beforeCheck, sumOfWords, checkWord, encodeCheck, sealed, encode}
+use Rattle.table.specs.Encoding.{u16, u32, i32, recordOf, encodeNumbers, encodeTerms, encodeRow, encodeRows, encodeHead}
+use Rattle.table.specs.Encoding.{encodeOrder, beforeCheck, sumOfWords, checkWord, encodeCheck, sealed, encode}
 use Rattle.table.proofs.Standing.{sum-read}
 use Rattle.table.proofs.Sizes.{rows-even, row-appended, length-numbers, length-terms, length-head, before-check-even}
 

@@ -13,7 +13,8 @@ use Rattle.table.specs.Rows.{after}
 use Rattle.table.specs.Tests.{addsToZero}
 use Rattle.table.specs.Kept.{Kept, rowsOf, orderOf}
 use Rattle.table.specs.Model.{WithinLimits}
-use Rattle.table.specs.Encoding.{IsBytes, u16, recordOf, encodeNumbers, encodeRows, encodeHead, encodeOrder, beforeCheck, sumOfWords, checkWord, encodeCheck, sealed, encode, modelOf}
+use Rattle.table.specs.Encoding.{IsBytes, u16, recordOf, encodeNumbers, encodeRows, encodeHead, encodeOrder}
+use Rattle.table.specs.Encoding.{beforeCheck, sumOfWords, checkWord, encodeCheck, sealed, encode, modelOf}
 use Rattle.table.proofs.Limited.{order-passed, different-passed}
 use Rattle.table.proofs.Sizes.{length-numbers, before-check-even}
 use Rattle.table.proofs.CheckWord.{sum-of-all-words, sum-with-check, check-only}
@@ -41,7 +42,8 @@ module _ (t : List ℕ) (f : Frame) (bytes : IsBytes t) (kept : Kept t f) where
       let first = u16-stands t bytes 4 6 (omega arith) (omega arith) in
       let second = u16-stands t bytes 6 8 (omega arith) (omega arith) in
       rw (kept .variables, kept .requests)
-      (record-stands t bytes 0 1 8 (u16 (u16At t 4) ++ u16 (u16At t 6)) (kind-number (u16At t 2) Head refl (kept .head .0)) (omega arith) (omega arith) (omega arith)
+      (record-stands t bytes 0 1 8 (u16 (u16At t 4) ++ u16 (u16At t 6))
+      (kind-number (u16At t 2) Head refl (kept .head .0)) (omega arith) (omega arith) (omega arith)
       (first ∙ ap (λ (xs : List ℕ). u16 (u16At t 4) ++ xs) second))
 
   order-stands : drop (f .order) t ≡ encodeOrder (orderOf t f) ++ drop check-place t
@@ -51,7 +53,8 @@ module _ (t : List ℕ) (f : Frame) (bytes : IsBytes t) (kept : Kept t f) where
       let l = kept .order .1 in
       let read = length-words (f .requests) t (f .order + 4) in
       let size = length-numbers (orderOf t f) in
-      record-stands t bytes (f .order) 4 check-place (encodeNumbers (orderOf t f)) (kind-number (u16At t (f .order + 2)) Order refl (kept .order .0)) (omega arith) (omega arith) (omega arith)
+      record-stands t bytes (f .order) 4 check-place (encodeNumbers (orderOf t f))
+      (kind-number (u16At t (f .order + 2)) Order refl (kept .order .0)) (omega arith) (omega arith) (omega arith)
       (numbers-stand t bytes (f .requests) (f .order + 4) check-place (omega arith) (omega arith))
 
   check-stands : drop check-place t ≡ recordOf 5 (u16 word)
@@ -59,7 +62,8 @@ module _ (t : List ℕ) (f : Frame) (bytes : IsBytes t) (kept : Kept t f) where
   check-stands =
       let end = at-check in
       let l = kept .check .1 in
-      record-stands t bytes check-place 5 (length t) (u16 word) (kind-number (u16At t (check-place + 2)) Check refl (kept .check .0)) l (omega arith) (omega arith)
+      record-stands t bytes check-place 5 (length t) (u16 word)
+      (kind-number (u16At t (check-place + 2)) Check refl (kept .check .0)) l (omega arith) (omega arith)
       (u16-stands t bytes (check-place + 4) (length t) (omega arith) (omega arith))
       ∙ rw (drop-length t) (append-nil (recordOf 5 (u16 word)))
 

@@ -10,7 +10,8 @@ use mir.Val.{ofZ}
 use mir.Facts.{fits-ofZ}
 use Rattle.table.specs.Rows.{Term, Row, clause, linear}
 use Rattle.table.specs.Model.{Model, Each, IsI32, LiteralWithin, TermWithin, ClauseWithin, LinearWithin, RowWithin, IsRequest, WithinLimits}
-use Rattle.table.specs.Encoding.{IsByte, IsBytes, u16, u32, i32, recordOf, encodeNumbers, encodeTerm, encodeTerms, encodeRow, encodeRows, encodeHead, encodeOrder, beforeCheck, sumOfWords, checkWord, encodeCheck, sealed, encode}
+use Rattle.table.specs.Encoding.{IsByte, IsBytes, u16, u32, i32, recordOf, encodeNumbers, encodeTerm, encodeTerms, encodeRow}
+use Rattle.table.specs.Encoding.{encodeRows, encodeHead, encodeOrder, beforeCheck, sumOfWords, checkWord, encodeCheck, sealed, encode}
 use Rattle.table.proofs.Standing.{i32-fits, weight-fits}
 use Rattle.table.proofs.Limited.{each-append, each-map}
 use Rattle.table.proofs.Sizes.{length-numbers, length-terms}

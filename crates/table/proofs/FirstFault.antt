@@ -14,7 +14,8 @@ use Rattle.table.specs.Reading.{ruleOf, stepAt, endingOf, scan, reading}
 use Rattle.table.specs.FirstFault.{FirstFaultIsTold, TooLongIsTold, LimitsAreTold, numberOfStep}
 
 pub first-fault-is-told : FirstFaultIsTold
-unfolding u16At u32At i32At words total every among allDifferent kindOf isKnown isHead termAt terms clauseAt linearAt within termInRange rowInRange isWhole headFirst inSequence roomForRow lengthRight inRange noRepeat addsToZero nextPhase nextFrame ruleOf stepAt endingOf scan reading
+unfolding u16At u32At i32At words total every among allDifferent kindOf isKnown isHead termAt terms clauseAt linearAt within termInRange
+    rowInRange isWhole headFirst inSequence roomForRow lengthRight inRange noRepeat addsToZero nextPhase nextFrame ruleOf stepAt endingOf scan reading
 first-fault-is-told =
     record {
       empty = refl;
@@ -60,7 +61,8 @@ unfolding reading
 too-long-is-told t long = rw (lt-ltb 32768 (length t) long)
 
 pub limits-are-told : LimitsAreTold
-unfolding u16At u32At i32At words total every among allDifferent kindOf isKnown isHead termAt terms clauseAt linearAt within termInRange rowInRange isWhole headFirst inSequence roomForRow lengthRight inRange noRepeat addsToZero nextPhase nextFrame ruleOf stepAt endingOf scan reading numberOfStep
+unfolding u16At u32At i32At words total every among allDifferent kindOf isKnown isHead termAt terms clauseAt linearAt within termInRange rowInRange
+    isWhole headFirst inSequence roomForRow lengthRight inRange noRepeat addsToZero nextPhase nextFrame ruleOf stepAt endingOf scan reading numberOfStep
 limits-are-told =
     record {
       v-20 = refl;

@@ -76,7 +76,10 @@ module _ (v n : ℕ) (t : List ℕ) (at : ℕ) (rest : List ℕ) where
       }
 
   clause-read :
-      (role : ℕ) (literals : List ℕ) → ClauseWithin v n role literals → drop at t ≡ encodeRow (clause role literals) ++ rest → RowRead v n t at (clause role literals) rest
+      (role : ℕ) (literals : List ℕ) →
+      ClauseWithin v n role literals →
+      drop at t ≡ encodeRow (clause role literals) ++ rest →
+      RowRead v n t at (clause role literals) rest
   unfolding encodeRow RowWithin kindOf isRow rowOf clauseAt u16
   clause-read role literals within h =
       let p = record-read t at 2 (u16 role ++ encodeNumbers literals) rest h in

@@ -160,7 +160,9 @@ module _ (t : List ℕ) (bytes : IsBytes t) where
   rows-stand v n (suc m) at end kept =
       let first = row-stands v n at (kept .0) in
       let later = rows-stand v n m (after t at) end (kept .1) in (
-        first .0 ∙ ap (λ (xs : List ℕ). encodeRow (rowAt t at) ++ xs) (later .0) ∙ sym (append-assoc (encodeRow (rowAt t at)) (encodeRows (rows m t (after t at))) (drop end t)),
+        first .0
+            ∙ ap (λ (xs : List ℕ). encodeRow (rowAt t at) ++ xs) (later .0)
+            ∙ sym (append-assoc (encodeRow (rowAt t at)) (encodeRows (rows m t (after t at))) (drop end t)),
         (first .1, later .1),
         ap suc (later .2),
       )

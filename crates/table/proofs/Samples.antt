@@ -11,7 +11,9 @@ use Rattle.table.specs.Body.{placeOfRecord, stretchAt, stretchBy, bytesO
 use Rattle.table.specs.Samples.{SamplesHold}
 
 pub samples-hold : SamplesHold
-unfolding u16At u32At i32At words total every among allDifferent kindOf isKnown isHead termAt terms clauseAt linearAt rowOf rows within termInRange rowInRange isWhole headFirst inSequence roomForRow lengthRight inRange noRepeat addsToZero nextPhase nextFrame ruleOf stepAt endingOf scan reading placeOfRecord stretchAt stretchBy bytesOf
+unfolding u16At u32At i32At words total every among allDifferent kindOf isKnown isHead termAt terms clauseAt linearAt
+    rowOf rows within termInRange rowInRange isWhole headFirst inSequence roomForRow lengthRight inRange noRepeat
+    addsToZero nextPhase nextFrame ruleOf stepAt endingOf scan reading placeOfRecord stretchAt stretchBy bytesOf
 samples-hold =
     record {
       h-accepted = refl;

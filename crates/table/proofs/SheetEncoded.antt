@@ -12,22 +12,27 @@ use Rattle.table.specs.Limits.{within, termInRange, rowInRange}
 use Rattle.table.specs.Tests.{isWhole, headFirst, inSequence, roomForRow, lengthRight, inRange, noRepeat, addsToZero, nextPhase, nextFrame}
 use Rattle.table.specs.Reading.{ruleOf, stepAt, endingOf, scan, reading}
 use Rattle.table.specs.Model.{Model, Each, Different, IsI32, RowWithin, WithinLimits}
-use Rattle.table.specs.Encoding.{u16, u32, i32, recordOf, encodeNumbers, encodeTerm, encodeTerms, encodeRow, encodeRows, encodeHead, encodeOrder, beforeCheck, sumOfWords, checkWord, encodeCheck, sealed, encode, frameOf, StandsFor}
+use Rattle.table.specs.Encoding.{u16, u32, i32, recordOf, encodeNumbers, encodeTerm, encodeTerms, encodeRow, encodeRows, encodeHead}
+use Rattle.table.specs.Encoding.{encodeOrder, beforeCheck, sumOfWords, checkWord, encodeCheck, sealed, encode, frameOf, StandsFor}
 use Rattle.table.specs.Sheet.{bibMap, sheetModels, sheetTables, modelH, modelThree, tableH}
 
 -- H, byte for byte
 pub h-encoded : encode modelH ≡ tableH
-unfolding u16 u32 i32 recordOf encodeNumbers encodeTerm encodeTerms encodeRow encodeRows encodeHead encodeOrder beforeCheck sumOfWords checkWord encodeCheck sealed encode
+unfolding u16 u32 i32 recordOf encodeNumbers encodeTerm encodeTerms encodeRow encodeRows
+    encodeHead encodeOrder beforeCheck sumOfWords checkWord encodeCheck sealed encode
 h-encoded = refl
 
 -- all of them, one claim
 pub sheet-encoded : map encode sheetModels ≡ sheetTables
-unfolding u16 u32 i32 recordOf encodeNumbers encodeTerm encodeTerms encodeRow encodeRows encodeHead encodeOrder beforeCheck sumOfWords checkWord encodeCheck sealed encode
+unfolding u16 u32 i32 recordOf encodeNumbers encodeTerm encodeTerms encodeRow encodeRows
+    encodeHead encodeOrder beforeCheck sumOfWords checkWord encodeCheck sealed encode
 sheet-encoded = refl
 
 -- all of them are accepted
 pub sheet-accepted : map reading sheetTables ≡ map (λ (m : Model). Accepted (frameOf m)) sheetModels
-unfolding u16At u32At i32At words total every among allDifferent kindOf isKnown isHead termAt terms clauseAt linearAt rowOf rows within termInRange rowInRange isWhole headFirst inSequence roomForRow lengthRight inRange noRepeat addsToZero nextPhase nextFrame ruleOf stepAt endingOf scan reading u16 u32 i32 recordOf encodeNumbers encodeTerm encodeTerms encodeRow encodeRows frameOf
+unfolding u16At u32At i32At words total every among allDifferent kindOf isKnown isHead termAt terms clauseAt linearAt rowOf rows
+    within termInRange rowInRange isWhole headFirst inSequence roomForRow lengthRight inRange noRepeat addsToZero nextPhase nextFrame
+    ruleOf stepAt endingOf scan reading u16 u32 i32 recordOf encodeNumbers encodeTerm encodeTerms encodeRow encodeRows frameOf
 sheet-accepted = refl
 
 -- and the models are within the limits

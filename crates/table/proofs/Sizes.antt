@@ -7,7 +7,8 @@ use lib.ListN.{length, length-append}
 use lib.IntN.{ℤ}
 use Rattle.table.specs.Rows.{Term, Row, clause, linear}
 use Rattle.table.specs.Model.{Model, Each, RowWithin, WithinLimits}
-use Rattle.table.specs.Encoding.{u16, u32, i32, recordOf, encodeNumbers, encodeTerm, encodeTerms, encodeRow, encodeRows, encodeHead, encodeOrder, beforeCheck, sumOfWords, encodeCheck, sealed, encode}
+use Rattle.table.specs.Encoding.{u16, u32, i32, recordOf, encodeNumbers, encodeTerm, encodeTerms, encodeRow, encodeRows}
+use Rattle.table.specs.Encoding.{encodeHead, encodeOrder, beforeCheck, sumOfWords, encodeCheck, sealed, encode}
 
 pub length-u16 : (n : ℕ) → length (u16 n) ≡ 2
 unfolding u16

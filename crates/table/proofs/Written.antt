@@ -12,7 +12,8 @@ use Rattle.table.specs.Rows.{lengthAt, kindAt, after, rows, orderAt}
 use Rattle.table.specs.Tests.{addsToZero}
 use Rattle.table.specs.Kept.{RowsKept, Kept}
 use Rattle.table.specs.Model.{Model, WithinLimits}
-use Rattle.table.specs.Encoding.{u16, encodeNumbers, encodeRows, encodeHead, encodeOrder, beforeCheck, sumOfWords, checkWord, encodeCheck, sealed, encode, frameOf, modelOf}
+use Rattle.table.specs.Encoding.{u16, encodeNumbers, encodeRows, encodeHead, encodeOrder, beforeCheck}
+use Rattle.table.specs.Encoding.{sumOfWords, checkWord, encodeCheck, sealed, encode, frameOf, modelOf}
 use Rattle.table.proofs.Standing.{u16-read, past-u16, numbers-read}
 use Rattle.table.proofs.Limited.{order-passes, different-passes}
 use Rattle.table.proofs.Sizes.{length-numbers, length-encode, rows-even}
@@ -41,7 +42,11 @@ record Found (m : Model) (t : List ℕ) : Type 0 where
   check : (kindAt t (after t (frameOf m .order)) ≡ Check) × (lengthAt t (after t (frameOf m .order)) ≡ 2)
   end : frameOf m .order + 4 + 2 * m .requests + 6 ≡ length t
 
-found : (m : Model) (t : List ℕ) → WithinLimits m → t ≡ encodeHead (m .variables) (m .requests) ++ (encodeRows (m .rows) ++ (encodeOrder (m .order) ++ (the-check m ++ []))) → Found m t
+found :
+    (m : Model) (t : List ℕ) →
+    WithinLimits m →
+    t ≡ encodeHead (m .variables) (m .requests) ++ (encodeRows (m .rows) ++ (encodeOrder (m .order) ++ (the-check m ++ []))) →
+    Found m t
 unfolding frameOf encodeHead encodeOrder encodeCheck kindOf u16
 found m t within h =
     let after-order = the-check m ++ [] in

@@ -3,7 +3,8 @@
 -- Refusals, the numbers by name; Tests, the tests of one record; Reading, all of them in document 01's order; Body, a record's body;
 -- Kept, what an accepted table keeps, for those who use it.
 -- The format said a second time, without tests and places: Model, what a table means; Encoding, the bytes of a model; Sheet, the sample
--- sheet's tables as models and as bytes; Samples, what is read of table H; FirstFault, what the first test tells of tables with one or two faults, and each limit at both sides.
+-- sheet's tables as models and as bytes; Samples, what is read of table H; FirstFault, what the first test tells of tables with one or two
+-- faults, and each limit at both sides.
 pub mod Words
 pub mod Lists
 pub mod Kinds

@@ -36,12 +36,17 @@ same-length c = search needs
 
 returns : tie.Need-returns
 returns c =
-    let entry = c .before .before .before .before .before .before .before .before .before .before .before .before .before .before .before .before .before .before .before .before .before .args in
-    let put-u16 = c .before .before .before .before .before .before .before .before .before .before .before .before .before .before .before .before .before .before .put-u16 in
+    let entry =
+    c .before .before .before .before .before .before .before .before .before .before .before
+    .before .before .before .before .before .before .before .before .before .before .args in
+    let put-u16 =
+    c .before .before .before .before .before .before .before .before .before
+    .before .before .before .before .before .before .before .before .before .put-u16 in
     let put-u162 = c .before .before .before .before .before .before .before .before .before .before .before .before .before .before .put-u162 in
     let put-u163 = c .before .before .before .before .before .before .before .before .before .before .put-u163 in
     let put-u32 = c .before .before .before .before .before .before .put-u32 in
-    five-numbers (entry .part .now) _ _ _ _ _ (entry .kind) (entry .status) (entry .count) (entry .k) (put-u16 .ensures) (put-u162 .ensures) (put-u163 .ensures) (put-u32 .ensures) (c .before .before .put-u164 .ensures)
+    five-numbers (entry .part .now) _ _ _ _ _ (entry .kind) (entry .status) (entry .count) (entry .k)
+    (put-u16 .ensures) (put-u162 .ensures) (put-u163 .ensures) (put-u32 .ensures) (c .before .before .put-u164 .ensures)
 
 pub put-head-spec : {M : Type 1} → statement M
 put-head-spec =

@@ -25,7 +25,8 @@ returns c =
 returns-2 : tie.Need-returns-2
 returns-2 c =
     let entry = c .before .before .before .before .before .before .args in
-    told-answer (entry .table .now) (entry .frame) (entry .selection) _ (c .one-for .result) (sym (c .before .before .found .given .1) ∙ c .before .before .before .before .ask-selection .ensures) (c .one-for .ensures)
+    told-answer (entry .table .now) (entry .frame) (entry .selection) _ (c .one-for .result)
+    (sym (c .before .before .found .given .1) ∙ c .before .before .before .before .ask-selection .ensures) (c .one-for .ensures)
 
 pub can-stand-accepted-spec : {M : Type 1} → statement M
 can-stand-accepted-spec =

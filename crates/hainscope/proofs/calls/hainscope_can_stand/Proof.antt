@@ -25,7 +25,8 @@ returns : tie.Need-returns
 returns c =
     let entry = c .before .before .before .before .before .before .before .args in
     let read = c .before .before .before .before .before .read in
-    question-answered (entry .table .now) (entry .selection) _ _ _ (sym (read .ensures) ∙ c .before .before .before .told .given .1) (c .can-stand-accepted .ensures)
+    question-answered (entry .table .now) (entry .selection) _ _ _
+    (sym (read .ensures) ∙ c .before .before .before .told .given .1) (c .can-stand-accepted .ensures)
 
 returns-2 : tie.Need-returns-2
 returns-2 c =

@@ -12,7 +12,11 @@ use Rattle.hainscope.proofs.reporting.load.Statement.{statement}
 use Rattle.hainscope.proofs.reporting.load.Tie as tie
 
 abbrev Inv-loop : tie.InvT-loop
-Inv-loop table from order₀ at₀ place₀ left₀ order at place left = (at + 2 * left ≡ from + 2 * length order₀) × (place + left ≡ length order₀) × (length order ≡ length order₀) × (sets order place (words left table at) ≡ sets order₀ 0 (words (length order₀) table from))
+Inv-loop table from order₀ at₀ place₀ left₀ order at place left =
+    (at + 2 * left ≡ from + 2 * length order₀)
+    × (place + left ≡ length order₀)
+    × (length order ≡ length order₀)
+    × (sets order place (words left table at) ≡ sets order₀ 0 (words (length order₀) table from))
 
 abbrev μ-loop : tie.MeasureT-loop
 μ-loop table from order₀ at₀ place₀ left₀ order at place left = left
@@ -44,8 +48,13 @@ loop-less c = omega arith
 loop-again : tie.Need-loop-again Inv-loop μ-loop
 loop-again c =
     let entry = c .before .before .before .before .before .args in
-    let loop = c .before .before .loop in
-    (omega arith, omega arith, simp length-set (loop .inv .2), load-turn (loop .left) (loop .at) (loop .place) (c .word .result) (entry .table .now) (loop .order) (c .before .loop-test .taken) (c .word .ensures .0) ∙ loop .inv .3)
+    let loop = c .before .before .loop in (
+      omega arith,
+      omega arith,
+      simp length-set (loop .inv .2),
+      load-turn (loop .left) (loop .at) (loop .place) (c .word .result) (entry .table .now) (loop .order) (c .before .loop-test .taken) (c .word .ensures .0)
+          ∙ loop .inv .3,
+    )
 
 same-length : tie.Need-same-length Inv-loop μ-loop
 same-length c = c .before .loop .inv .2
@@ -53,7 +62,8 @@ same-length c = c .before .loop .inv .2
 returns : tie.Need-returns Inv-loop μ-loop
 returns c =
     let entry = c .before .before .before .before .args in
-    load-done (c .before .loop .left) (c .before .loop .at) (c .before .loop .place) (entry .table .now) (c .before .loop .order) (entry .order .now) (entry .from) (c .loop-test .left) (c .before .loop .inv .3)
+    load-done (c .before .loop .left) (c .before .loop .at) (c .before .loop .place) (entry .table .now)
+    (c .before .loop .order) (entry .order .now) (entry .from) (c .loop-test .left) (c .before .loop .inv .3)
 
 pub load-spec : {M : Type 1} → statement M
 load-spec =

@@ -30,12 +30,14 @@ returns c =
     let entry = c .before .before .before .before .before .before .before .before .before .before .before .args in
     let read = c .before .before .before .before .before .before .before .before .read in
     let told = c .before .before .before .before .before .before .told in
-    report-kept (entry .method) (entry .table .now) (entry .buffer .now) (entry .start) _ _ _ _ (sym (read .ensures) ∙ told .given .1) (c .before .before .report-accepted .ensures)
+    report-kept (entry .method) (entry .table .now) (entry .buffer .now) (entry .start) _ _ _ _
+    (sym (read .ensures) ∙ told .given .1) (c .before .before .report-accepted .ensures)
 
 returns-2 : tie.Need-returns-2
 returns-2 c =
     let entry = c .before .before .before .before .before .before .args in
-    report-refused (entry .method) (entry .table .now) (entry .buffer .now) (entry .start) _ (sym (c .before .before .before .read .ensures) ∙ c .before .told2 .given .1)
+    report-refused (entry .method) (entry .table .now) (entry .buffer .now) (entry .start) _
+    (sym (c .before .before .before .read .ensures) ∙ c .before .told2 .given .1)
 
 pub make-report-spec : {M : Type 1} → statement M
 make-report-spec =

@@ -12,17 +12,20 @@ has-room-requires c κs = search needs
 returns : tie.Need-returns
 returns c =
     let entry = c .before .before .before .before .args in
-    no-room-left (entry .method) (entry .table .now) (entry .frame) (entry .buffer .now) (entry .start) (c .before .has-room .result) (c .before .has-room .ensures) (not-true _ (c .if1 .taken))
+    no-room-left (entry .method) (entry .table .now) (entry .frame) (entry .buffer .now) (entry .start)
+    (c .before .has-room .result) (c .before .has-room .ensures) (not-true _ (c .if1 .taken))
 
 sub-write-record : tie.Need-sub-write-record
 sub-write-record c =
     let entry = c .before .before .before .before .args in
-    start-within (entry .method) (entry .table .now) (entry .frame) (entry .buffer .now) (entry .start) (c .before .has-room .result) (c .before .has-room .ensures) (not-false _ (c .if1 .left))
+    start-within (entry .method) (entry .table .now) (entry .frame) (entry .buffer .now) (entry .start)
+    (c .before .has-room .result) (c .before .has-room .ensures) (not-false _ (c .if1 .left))
 
 part-write-record-start : tie.Need-part-write-record-start
 part-write-record-start c =
     let entry = c .before .before .before .before .args in
-    start-within (entry .method) (entry .table .now) (entry .frame) (entry .buffer .now) (entry .start) (c .before .has-room .result) (c .before .has-room .ensures) (not-false _ (c .if1 .left))
+    start-within (entry .method) (entry .table .now) (entry .frame) (entry .buffer .now) (entry .start)
+    (c .before .has-room .result) (c .before .has-room .ensures) (not-false _ (c .if1 .left))
 
 part-write-record-end : tie.Need-part-write-record-end
 part-write-record-end c = search needs
@@ -32,14 +35,23 @@ write-record-requires c κs =
     let entry = c .before .before .before .before .before .args in
     let known = c .before .before .before .before .before .pre in
     let has-room = c .before .before .has-room in
-    part-ready (entry .method) (entry .table .now) (entry .frame) (entry .buffer .now) (entry .start) (has-room .result) (has-room .ensures) (not-false _ (c .before .if1 .left)) known
+    part-ready (entry .method) (entry .table .now) (entry .frame) (entry .buffer .now)
+    (entry .start) (has-room .result) (has-room .ensures) (not-false _ (c .before .if1 .left)) known
 
 add-place : tie.Need-add-place
 add-place c =
     let entry = c .before .before .before .before .before .before .before .before .args in
     let has-room = c .before .before .before .before .before .has-room in
     let if1 = c .before .before .before .before .if1 in
-    omega (arith, start-within (entry .method) (entry .table .now) (entry .frame) (entry .buffer .now) (entry .start) (has-room .result) (has-room .ensures) (not-false _ (if1 .left)), enough (entry .method) (entry .table .now) (entry .frame) (entry .buffer .now) (entry .start) (has-room .result) (has-room .ensures) (not-false _ (if1 .left)), c .before .before .write-record .ensures .within, order-long (entry .table .now) (entry .frame))
+    omega (
+      arith,
+      start-within (entry .method) (entry .table .now) (entry .frame) (entry .buffer .now)
+          (entry .start) (has-room .result) (has-room .ensures) (not-false _ (if1 .left)),
+      enough (entry .method) (entry .table .now) (entry .frame) (entry .buffer .now)
+          (entry .start) (has-room .result) (has-room .ensures) (not-false _ (if1 .left)),
+      c .before .before .write-record .ensures .within,
+      order-long (entry .table .now) (entry .frame),
+    )
 
 same-length : tie.Need-same-length
 same-length c = search needs
@@ -48,7 +60,8 @@ returns-2 : tie.Need-returns-2
 returns-2 c =
     let entry = c .before .before .before .before .before .before .before .before .args in
     let has-room = c .before .before .before .before .before .has-room in
-    report-written (entry .method) (entry .table .now) (entry .frame) (entry .buffer .now) (entry .start) (has-room .result) (has-room .ensures) (not-false _ (c .before .before .before .before .if1 .left)) _ _ (c .before .before .write-record .ensures)
+    report-written (entry .method) (entry .table .now) (entry .frame) (entry .buffer .now) (entry .start) (has-room .result)
+    (has-room .ensures) (not-false _ (c .before .before .before .before .if1 .left)) _ _ (c .before .before .write-record .ensures)
 
 pub report-accepted-spec : {M : Type 1} → statement M
 report-accepted-spec =

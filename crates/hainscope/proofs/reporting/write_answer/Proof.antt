@@ -29,7 +29,9 @@ record-kind-requires c κs = search needs
 
 write-requires : tie.Need-write-requires
 write-requires c κs =
-    let known = c .before .before .before .before .before .before .before .before .before .before .before .before .before .before .before .before .before .before .before .before .before .before .pre in
+    let known =
+    c .before .before .before .before .before .before .before .before .before .before .before
+    .before .before .before .before .before .before .before .before .before .before .before .pre in
     let load = c .before .before .before .before .before .before .before .before .before .before .before .before .before .before .before .load in
     let answer = c .before .before .before .before .before .before .before .before .answer in
     record {
@@ -49,12 +51,18 @@ same-length-3 c = search needs
 
 returns : tie.Need-returns
 returns c =
-    let entry = c .before .before .before .before .before .before .before .before .before .before .before .before .before .before .before .before .before .before .before .before .before .before .before .before .before .args in
-    let known = c .before .before .before .before .before .before .before .before .before .before .before .before .before .before .before .before .before .before .before .before .before .before .before .before .before .pre in
-    let load = c .before .before .before .before .before .before .before .before .before .before .before .before .before .before .before .before .before .before .load in
+    let entry =
+    c .before .before .before .before .before .before .before .before .before .before .before .before .before
+    .before .before .before .before .before .before .before .before .before .before .before .before .args in
+    let known =
+    c .before .before .before .before .before .before .before .before .before .before .before .before .before
+    .before .before .before .before .before .before .before .before .before .before .before .before .pre in
+    let load =
+    c .before .before .before .before .before .before .before .before .before .before .before .before .before .before .before .before .before .before .load in
     let answer = c .before .before .before .before .before .before .before .before .before .before .before .answer in
     let record-kind = c .before .before .before .before .before .record-kind in
-    answer-written (entry .table .now) (entry .frame) (known .0 .kept) (entry .order .now) _ (known .1) (load .ensures) (entry .method) (entry .flags .now) _ _ _ (known .2) (answer .ensures) _ _ _ _ (record-kind .ensures) (c .before .before .write .ensures)
+    answer-written (entry .table .now) (entry .frame) (known .0 .kept) (entry .order .now) _ (known .1) (load .ensures) (entry .method)
+    (entry .flags .now) _ _ _ (known .2) (answer .ensures) _ _ _ _ (record-kind .ensures) (c .before .before .write .ensures)
 
 pub write-answer-spec : {M : Type 1} → statement M
 write-answer-spec =

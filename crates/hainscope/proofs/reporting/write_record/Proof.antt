@@ -12,7 +12,9 @@ array-borrow-prefix-order : tie.Need-array-borrow-prefix-order
 array-borrow-prefix-order c = search needs
 
 slice-aggregate-write-answer : tie.Need-slice-aggregate-write-answer
-slice-aggregate-write-answer c = sym (length-take-le (c .before .before .before .before .args .frame .requests) (replicate mostRequests 0) (c .before .before .before .before .pre .kept .few-requests))
+slice-aggregate-write-answer c =
+    sym (length-take-le (c .before .before .before .before .args .frame .requests)
+    (replicate mostRequests 0) (c .before .before .before .before .pre .kept .few-requests))
 
 array-borrow-prefix-flags : tie.Need-array-borrow-prefix-flags
 array-borrow-prefix-flags c = search needs
@@ -26,8 +28,11 @@ slice-aggregate-write-answer-2 c =
 write-answer-requires : tie.Need-write-answer-requires
 write-answer-requires c κs =
     let entry = c .before .before .before .before .before .before .before .args in
-    let known = c .before .before .before .before .before .before .before .pre in
-    (known, length-take-le (entry .frame .requests) (replicate mostRequests 0) (known .kept .few-requests), length-take-le (entry .frame .requests) (replicate mostRequests false) (known .kept .few-requests))
+    let known = c .before .before .before .before .before .before .before .pre in (
+      known,
+      length-take-le (entry .frame .requests) (replicate mostRequests 0) (known .kept .few-requests),
+      length-take-le (entry .frame .requests) (replicate mostRequests false) (known .kept .few-requests),
+    )
 
 same-length : tie.Need-same-length
 same-length c = search needs

@@ -24,7 +24,8 @@ returns c =
     let entry = c .before .before .before .before .before .before .before .args in
     let known = c .before .before .before .before .before .before .before .pre in
     let spread = c .before .before .before .spread in
-    names-too-much (entry .table .now) (entry .frame) (entry .selection) (entry .chosen .now) _ (known .0) (known .1) (spread .result) (spread .ensures) (c .if1 .taken)
+    names-too-much (entry .table .now) (entry .frame) (entry .selection) (entry .chosen .now) _
+    (known .0) (known .1) (spread .result) (spread .ensures) (c .if1 .taken)
 
 can-stand-requires : tie.Need-can-stand-requires
 can-stand-requires c κs =
@@ -44,7 +45,8 @@ returns-2 c =
     let entry = c .before .before .before .before .before .before .before .before .before .before .args in
     let known = c .before .before .before .before .before .before .before .before .before .before .pre in
     let spread = c .before .before .before .before .before .before .spread in
-    told-is (entry .table .now) (entry .frame) (entry .selection) (entry .chosen .now) _ (known .0) (known .1) (spread .result) (spread .ensures) (c .before .before .before .if1 .left) (c .can-stand .result) (c .can-stand .ensures)
+    told-is (entry .table .now) (entry .frame) (entry .selection) (entry .chosen .now) _ (known .0) (known .1)
+    (spread .result) (spread .ensures) (c .before .before .before .if1 .left) (c .can-stand .result) (c .can-stand .ensures)
 
 pub ask-spread-spec : {M : Type 1} → statement M
 ask-spread-spec =

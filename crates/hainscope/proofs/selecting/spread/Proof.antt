@@ -11,7 +11,11 @@ use Rattle.hainscope.proofs.selecting.spread.Statement.{statement}
 use Rattle.hainscope.proofs.selecting.spread.Tie as tie
 
 abbrev Inv-loop : tie.InvT-loop
-Inv-loop selection chosen₀ rest₀ request₀ left₀ chosen rest request left = (request + left ≡ length chosen₀) × (length chosen ≡ length chosen₀) × (sets chosen request (bits left rest) ≡ sets chosen₀ 1 (bits (length chosen₀ - 1) selection)) × (above left rest ≡ above (length chosen₀ - 1) selection)
+Inv-loop selection chosen₀ rest₀ request₀ left₀ chosen rest request left =
+    (request + left ≡ length chosen₀)
+    × (length chosen ≡ length chosen₀)
+    × (sets chosen request (bits left rest) ≡ sets chosen₀ 1 (bits (length chosen₀ - 1) selection))
+    × (above left rest ≡ above (length chosen₀ - 1) selection)
 
 abbrev μ-loop : tie.MeasureT-loop
 μ-loop selection chosen₀ rest₀ request₀ left₀ chosen rest request left = left
@@ -35,7 +39,13 @@ loop-less : tie.Need-loop-less Inv-loop μ-loop
 loop-less c = omega arith
 
 loop-again : tie.Need-loop-again Inv-loop μ-loop
-loop-again c = (omega arith, simp length-set (c .before .loop .inv .1), bits-turn (c .before .loop .left) (c .before .loop .rest) (c .before .loop .request) (c .before .loop .chosen) (c .loop-test .taken) ∙ c .before .loop .inv .2, above-turn (c .before .loop .left) (c .before .loop .rest) (c .loop-test .taken) ∙ c .before .loop .inv .3)
+loop-again c = (
+  omega arith,
+  simp length-set (c .before .loop .inv .1),
+  bits-turn (c .before .loop .left) (c .before .loop .rest) (c .before .loop .request) (c .before .loop .chosen) (c .loop-test .taken)
+      ∙ c .before .loop .inv .2,
+  above-turn (c .before .loop .left) (c .before .loop .rest) (c .loop-test .taken) ∙ c .before .loop .inv .3,
+)
 
 same-length : tie.Need-same-length Inv-loop μ-loop
 same-length c = c .before .loop .inv .1
@@ -43,7 +53,8 @@ same-length c = c .before .loop .inv .1
 returns : tie.Need-returns Inv-loop μ-loop
 returns c =
     let entry = c .before .before .args in
-    spread-done (c .before .loop .left) (c .before .loop .rest) (c .before .loop .request) (c .before .loop .chosen) (entry .chosen .now) (entry .selection) (c .loop-test .left) (c .before .before .pre) (c .before .loop .inv .2) (c .before .loop .inv .3)
+    spread-done (c .before .loop .left) (c .before .loop .rest) (c .before .loop .request) (c .before .loop .chosen) (entry .chosen .now)
+    (entry .selection) (c .loop-test .left) (c .before .before .pre) (c .before .loop .inv .2) (c .before .loop .inv .3)
 
 pub spread-spec : {M : Type 1} → statement M
 spread-spec =

@@ -15,7 +15,11 @@ enum-known-found c = search needs
 add-result : tie.Need-add-result
 add-result c =
     let entry = c .before .before .before .before .before .args in
-    omega (arith, stretch-within (entry .table .now) (entry .wanted) (c .before .found .given .0 .0) (c .before .found .given .0 .1 .0) (sym (c .before .before .before .find-body .ensures) ∙ c .before .found .given .1))
+    omega (
+      arith,
+      stretch-within (entry .table .now) (entry .wanted) (c .before .found .given .0 .0)
+          (c .before .found .given .0 .1 .0) (sym (c .before .before .before .find-body .ensures) ∙ c .before .found .given .1),
+    )
 
 sub-result : tie.Need-sub-result
 sub-result c = omega arith
@@ -26,7 +30,11 @@ part-result-start c = search needs
 part-result-end : tie.Need-part-result-end
 part-result-end c =
     let entry = c .before .before .before .before .before .args in
-    omega (arith, stretch-within (entry .table .now) (entry .wanted) (c .before .found .given .0 .0) (c .before .found .given .0 .1 .0) (sym (c .before .before .before .find-body .ensures) ∙ c .before .found .given .1))
+    omega (
+      arith,
+      stretch-within (entry .table .now) (entry .wanted) (c .before .found .given .0 .0)
+          (c .before .found .given .0 .1 .0) (sym (c .before .before .before .find-body .ensures) ∙ c .before .found .given .1),
+    )
 
 enum-told : tie.Need-enum-told
 enum-told c = search needs
@@ -38,7 +46,8 @@ returns : tie.Need-returns
 returns c =
     let entry = c .before .before .before .before .before .before .args in
     let found = c .before .before .found in
-    body-bytes (entry .table .now) (entry .wanted) (found .given .0 .0) (found .given .0 .1 .0) (sym (c .before .before .before .before .find-body .ensures) ∙ found .given .1)
+    body-bytes (entry .table .now) (entry .wanted) (found .given .0 .0) (found .given .0 .1 .0)
+    (sym (c .before .before .before .before .find-body .ensures) ∙ found .given .1)
 
 returns-2 : tie.Need-returns-2
 returns-2 c =

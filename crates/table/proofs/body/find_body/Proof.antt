@@ -20,7 +20,8 @@ enum-known-told c = search needs
 returns : tie.Need-returns
 returns c =
     let entry = c .before .before .before .before .before .args in
-    found-in-accepted (entry .table .now) (entry .wanted) _ (c .walk .result) (sym (c .before .before .before .read .ensures) ∙ c .before .enum-told .given .1) (c .walk .ensures)
+    found-in-accepted (entry .table .now) (entry .wanted) _ (c .walk .result)
+    (sym (c .before .before .before .read .ensures) ∙ c .before .enum-told .given .1) (c .walk .ensures)
 
 returns-2 : tie.Need-returns-2
 returns-2 c =

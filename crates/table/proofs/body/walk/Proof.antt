@@ -48,8 +48,10 @@ loop-less c = omega arith
 loop-again : tie.Need-loop-again Inv-loop μ-loop
 loop-again c =
     let entry = c .before .before .before .before .before .args in
-    let loop = c .before .before .before .loop in
-    (place-turn (loop .left) (entry .table .now) (loop .at) (c .number .result) (c .before .before .loop-test .taken) (c .number .ensures .0) ∙ loop .inv .0, whole-next (entry .table .now) (loop .at) (c .number .result) (loop .inv .1) (c .number .ensures .0))
+    let loop = c .before .before .before .loop in (
+      place-turn (loop .left) (entry .table .now) (loop .at) (c .number .result) (c .before .before .loop-test .taken) (c .number .ensures .0) ∙ loop .inv .0,
+      whole-next (entry .table .now) (loop .at) (c .number .result) (loop .inv .1) (c .number .ensures .0),
+    )
 
 returns-2 : tie.Need-returns-2 Inv-loop μ-loop
 returns-2 c =
@@ -71,7 +73,8 @@ returns-3 : tie.Need-returns-3 Inv-loop μ-loop
 returns-3 c =
     let entry = c .before .before .before .before .before .args in
     let loop = c .before .before .before .loop in
-    body-found (entry .table .now) (loop .at) (c .number2 .result) (c .before .if2 .left) (c .number2 .ensures .0) ∙ ap (stretchAt (entry .table .now)) (place-here (loop .left) (entry .table .now) (loop .at) (c .before .before .loop-test .left) ∙ loop .inv .0)
+    body-found (entry .table .now) (loop .at) (c .number2 .result) (c .before .if2 .left) (c .number2 .ensures .0)
+    ∙ ap (stretchAt (entry .table .now)) (place-here (loop .left) (entry .table .now) (loop .at) (c .before .before .loop-test .left) ∙ loop .inv .0)
 
 pub walk-spec : {M : Type 1} → statement M
 walk-spec =

@@ -10,7 +10,8 @@ use Rattle.table.proofs.check.sum_of_words.Statement.{statement}
 use Rattle.table.proofs.check.sum_of_words.Tie as tie
 
 abbrev Inv-loop : tie.InvT-loop
-Inv-loop table count sum₀ at₀ left₀ sum at left = (at + 2 * left ≡ 2 * count) × (sum < 65536) × ((sum + total (words left table at)) % 2 ^ 16 ≡ total (words count table 0) % 2 ^ 16)
+Inv-loop table count sum₀ at₀ left₀ sum at left =
+    (at + 2 * left ≡ 2 * count) × (sum < 65536) × ((sum + total (words left table at)) % 2 ^ 16 ≡ total (words count table 0) % 2 ^ 16)
 
 abbrev μ-loop : tie.MeasureT-loop
 μ-loop table count sum₀ at₀ left₀ sum at left = left
@@ -36,11 +37,19 @@ loop-less c = omega arith
 loop-again : tie.Need-loop-again Inv-loop μ-loop
 loop-again c =
     let entry = c .before .before .before .before .before .args in
-    let loop = c .before .before .before .loop in
-    (omega arith, omega arith, sum-turn (entry .table .now) (loop .at) (loop .left) (c .before .before .loop-test .taken) (loop .sum) (c .before .word .result) (c .wrapping-add-u16 .result) (c .before .word .ensures .0) (c .wrapping-add-u16 .ensures) ∙ loop .inv .2)
+    let loop = c .before .before .before .loop in (
+      omega arith,
+      omega arith,
+      sum-turn (entry .table .now) (loop .at) (loop .left) (c .before .before .loop-test .taken) (loop .sum)
+          (c .before .word .result) (c .wrapping-add-u16 .result) (c .before .word .ensures .0) (c .wrapping-add-u16 .ensures)
+          ∙ loop .inv .2,
+    )
 
 returns : tie.Need-returns Inv-loop μ-loop
-returns c = sym (empty-sum (c .before .before .before .args .table .now) (c .before .loop .at) (c .before .loop .left) (c .before .loop .sum) (c .loop-test .left) (c .before .loop .inv .1)) ∙ c .before .loop .inv .2
+returns c =
+    sym (empty-sum (c .before .before .before .args .table .now) (c .before .loop .at)
+    (c .before .loop .left) (c .before .loop .sum) (c .loop-test .left) (c .before .loop .inv .1))
+    ∙ c .before .loop .inv .2
 
 pub sum-of-words-spec : {M : Type 1} → statement M
 sum-of-words-spec =

@@ -34,7 +34,9 @@ returns c =
     let entry = c .before .before .before .before .before .before .args in
     let loop = c .before .before .before .before .loop in
     let number = c .before .before .number in
-    sym (repeated (entry .table .now) (loop .at) (loop .left) (c .before .before .before .loop-test .taken) (c .before .is-among .result) (number .result) (number .ensures .0) (c .before .is-among .ensures) (c .if1 .taken)) ∙ loop .inv .1
+    sym (repeated (entry .table .now) (loop .at) (loop .left) (c .before .before .before .loop-test .taken)
+    (c .before .is-among .result) (number .result) (number .ensures .0) (c .before .is-among .ensures) (c .if1 .taken))
+    ∙ loop .inv .1
 
 loop-less : tie.Need-loop-less Inv-loop μ-loop
 loop-less c = omega arith
@@ -43,11 +45,17 @@ loop-again : tie.Need-loop-again Inv-loop μ-loop
 loop-again c =
     let entry = c .before .before .before .before .before .before .args in
     let loop = c .before .before .before .before .loop in
-    let number = c .before .before .number in
-    (omega arith, sym (different-so-far (entry .table .now) (loop .at) (loop .left) (c .before .before .before .loop-test .taken) (c .before .is-among .result) (number .result) (number .ensures .0) (c .before .is-among .ensures) (c .if1 .left)) ∙ loop .inv .1)
+    let number = c .before .before .number in (
+      omega arith,
+      sym (different-so-far (entry .table .now) (loop .at) (loop .left) (c .before .before .before .loop-test .taken)
+          (c .before .is-among .result) (number .result) (number .ensures .0) (c .before .is-among .ensures) (c .if1 .left))
+          ∙ loop .inv .1,
+    )
 
 returns-2 : tie.Need-returns-2 Inv-loop μ-loop
-returns-2 c = sym (none-different (c .before .before .before .args .table .now) (c .before .loop .at) (c .before .loop .left) (c .loop-test .left)) ∙ c .before .loop .inv .1
+returns-2 c =
+    sym (none-different (c .before .before .before .args .table .now) (c .before .loop .at) (c .before .loop .left) (c .loop-test .left))
+    ∙ c .before .loop .inv .1
 
 pub are-different-spec : {M : Type 1} → statement M
 are-different-spec =

@@ -9,7 +9,8 @@ use Rattle.table.proofs.order.is_among.Statement.{statement}
 use Rattle.table.proofs.order.is_among.Tie as tie
 
 abbrev Inv-loop : tie.InvT-loop
-Inv-loop table from count wanted at₀ left₀ at left = (at + 2 * left ≡ from + 2 * count) × (among wanted (words left table at) ≡ among wanted (words count table from))
+Inv-loop table from count wanted at₀ left₀ at left =
+    (at + 2 * left ≡ from + 2 * count) × (among wanted (words left table at) ≡ among wanted (words count table from))
 
 abbrev μ-loop : tie.MeasureT-loop
 μ-loop table from count wanted at₀ left₀ at left = left
@@ -38,8 +39,10 @@ loop-less c = omega arith
 loop-again : tie.Need-loop-again Inv-loop μ-loop
 loop-again c =
     let entry = c .before .before .before .before .before .args in
-    let loop = c .before .before .before .loop in
-    (omega arith, sym (among-later (entry .table .now) (loop .at) (loop .left) (entry .wanted) (c .before .before .loop-test .taken) (omega arith)) ∙ loop .inv .1)
+    let loop = c .before .before .before .loop in (
+      omega arith,
+      sym (among-later (entry .table .now) (loop .at) (loop .left) (entry .wanted) (c .before .before .loop-test .taken) (omega arith)) ∙ loop .inv .1,
+    )
 
 returns-2 : tie.Need-returns-2 Inv-loop μ-loop
 returns-2 c =

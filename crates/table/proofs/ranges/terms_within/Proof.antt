@@ -10,7 +10,8 @@ use Rattle.table.proofs.ranges.terms_within.Statement.{statement}
 use Rattle.table.proofs.ranges.terms_within.Tie as tie
 
 abbrev Inv-loop : tie.InvT-loop
-Inv-loop table from count variables at₀ left₀ at left = (at + 6 * left ≡ from + 6 * count) × (every (termInRange variables) (terms left table at) ≡ every (termInRange variables) (terms count table from))
+Inv-loop table from count variables at₀ left₀ at left =
+    (at + 6 * left ≡ from + 6 * count) × (every (termInRange variables) (terms left table at) ≡ every (termInRange variables) (terms count table from))
 
 abbrev μ-loop : tie.MeasureT-loop
 μ-loop table from count variables at₀ left₀ at left = left
@@ -42,7 +43,9 @@ returns-2 c =
     let loop = c .before .before .before .before .before .before .loop in
     let loop-test = c .before .before .before .before .before .loop-test in
     let long-number = c .before .before .long-number in
-    sym (term-weight-out (entry .table .now) (loop .at) (loop .left) (entry .variables) (loop-test .taken) (long-number .result) (c .before .magnitude .result) (long-number .ensures .0) (c .before .magnitude .ensures) (c .if2 .taken)) ∙ loop .inv .1
+    sym (term-weight-out (entry .table .now) (loop .at) (loop .left) (entry .variables) (loop-test .taken)
+    (long-number .result) (c .before .magnitude .result) (long-number .ensures .0) (c .before .magnitude .ensures) (c .if2 .taken))
+    ∙ loop .inv .1
 
 add-at : tie.Need-add-at Inv-loop μ-loop
 add-at c = omega arith
@@ -58,8 +61,12 @@ loop-again c =
     let entry = c .before .before .before .before .before .before .before .before .args in
     let loop = c .before .before .before .before .before .before .loop in
     let loop-test = c .before .before .before .before .before .loop-test in
-    let long-number = c .before .before .long-number in
-    (omega arith, sym (term-within (entry .table .now) (loop .at) (loop .left) (entry .variables) (loop-test .taken) (long-number .result) (c .before .magnitude .result) (long-number .ensures .0) (c .before .magnitude .ensures) (omega arith) (c .if2 .left)) ∙ loop .inv .1)
+    let long-number = c .before .before .long-number in (
+      omega arith,
+      sym (term-within (entry .table .now) (loop .at) (loop .left) (entry .variables) (loop-test .taken) (long-number .result)
+          (c .before .magnitude .result) (long-number .ensures .0) (c .before .magnitude .ensures) (omega arith) (c .if2 .left))
+          ∙ loop .inv .1,
+    )
 
 returns-3 : tie.Need-returns-3 Inv-loop μ-loop
 returns-3 c =

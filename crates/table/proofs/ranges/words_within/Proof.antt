@@ -10,7 +10,8 @@ use Rattle.table.proofs.ranges.words_within.Statement.{statement}
 use Rattle.table.proofs.ranges.words_within.Tie as tie
 
 abbrev Inv-loop : tie.InvT-loop
-Inv-loop table from count low high at₀ left₀ at left = (at + 2 * left ≡ from + 2 * count) × (every (within low high) (words left table at) ≡ every (within low high) (words count table from))
+Inv-loop table from count low high at₀ left₀ at left =
+    (at + 2 * left ≡ from + 2 * count) × (every (within low high) (words left table at) ≡ every (within low high) (words count table from))
 
 abbrev μ-loop : tie.MeasureT-loop
 μ-loop table from count low high at₀ left₀ at left = left
@@ -31,7 +32,8 @@ returns-2 : tie.Need-returns-2 Inv-loop μ-loop
 returns-2 c =
     let entry = c .before .before .before .before .before .before .args in
     let loop = c .before .before .before .before .loop in
-    sym (word-above (entry .table .now) (loop .at) (loop .left) (entry .low) (entry .high) (c .before .before .before .loop-test .taken) (omega arith)) ∙ loop .inv .1
+    sym (word-above (entry .table .now) (loop .at) (loop .left) (entry .low) (entry .high) (c .before .before .before .loop-test .taken) (omega arith))
+    ∙ loop .inv .1
 
 add-at : tie.Need-add-at Inv-loop μ-loop
 add-at c = omega arith
@@ -45,8 +47,12 @@ loop-less c = omega arith
 loop-again : tie.Need-loop-again Inv-loop μ-loop
 loop-again c =
     let entry = c .before .before .before .before .before .before .args in
-    let loop = c .before .before .before .before .loop in
-    (omega arith, sym (word-within (entry .table .now) (loop .at) (loop .left) (entry .low) (entry .high) (c .before .before .before .loop-test .taken) (omega arith) (omega arith)) ∙ loop .inv .1)
+    let loop = c .before .before .before .before .loop in (
+      omega arith,
+      sym (word-within (entry .table .now) (loop .at) (loop .left) (entry .low)
+          (entry .high) (c .before .before .before .loop-test .taken) (omega arith) (omega arith))
+          ∙ loop .inv .1,
+    )
 
 returns-3 : tie.Need-returns-3 Inv-loop μ-loop
 returns-3 c =

@@ -16,7 +16,8 @@ number-requires-2 c κs = search needs
 returns : tie.Need-returns
 returns c =
     let entry = c .before .before .before .before .args in
-    clause-role-out (entry .table .now) (entry .at) (entry .variables) (entry .requests) (c .before .number2 .result) (c .before .before .number .result) (c .before .number2 .ensures .0) (c .if1 .taken)
+    clause-role-out (entry .table .now) (entry .at) (entry .variables) (entry .requests)
+    (c .before .number2 .result) (c .before .before .number .result) (c .before .number2 .ensures .0) (c .if1 .taken)
 
 add-words-within : tie.Need-add-words-within
 add-words-within c = search needs
@@ -35,7 +36,8 @@ returns-2 c =
     let entry = c .before .before .before .before .before .args in
     let number = c .before .before .before .number in
     let number2 = c .before .before .number2 in
-    clause-in-range (entry .table .now) (entry .at) (entry .variables) (entry .requests) (number2 .result) (number .result) (number2 .ensures .0) (number .ensures .0) (c .before .if1 .left) (c .words-within .result) (c .words-within .ensures)
+    clause-in-range (entry .table .now) (entry .at) (entry .variables) (entry .requests) (number2 .result) (number .result)
+    (number2 .ensures .0) (number .ensures .0) (c .before .if1 .left) (c .words-within .result) (c .words-within .ensures)
 
 pub clause-in-range-spec : {M : Type 1} → statement M
 clause-in-range-spec =

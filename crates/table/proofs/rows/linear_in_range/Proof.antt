@@ -16,7 +16,8 @@ number-requires-2 c κs = search needs
 returns : tie.Need-returns
 returns c =
     let entry = c .before .before .before .before .args in
-    linear-role-out (entry .table .now) (entry .at) (entry .variables) (entry .requests) (c .before .number2 .result) (c .before .before .number .result) (c .before .number2 .ensures .0) (c .if1 .taken)
+    linear-role-out (entry .table .now) (entry .at) (entry .variables) (entry .requests)
+    (c .before .number2 .result) (c .before .before .number .result) (c .before .number2 .ensures .0) (c .if1 .taken)
 
 add-terms-within : tie.Need-add-terms-within
 add-terms-within c = search needs
@@ -32,7 +33,8 @@ returns-2 c =
     let entry = c .before .before .before .before .before .args in
     let number = c .before .before .before .number in
     let number2 = c .before .before .number2 in
-    linear-in-range (entry .table .now) (entry .at) (entry .variables) (entry .requests) (number2 .result) (number .result) (number2 .ensures .0) (number .ensures .0) (c .before .if1 .left) (c .terms-within .result) (c .terms-within .ensures)
+    linear-in-range (entry .table .now) (entry .at) (entry .variables) (entry .requests) (number2 .result) (number .result)
+    (number2 .ensures .0) (number .ensures .0) (c .before .if1 .left) (c .terms-within .result) (c .terms-within .ensures)
 
 pub linear-in-range-spec : {M : Type 1} → statement M
 linear-in-range-spec =

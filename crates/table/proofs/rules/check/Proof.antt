@@ -18,7 +18,8 @@ returns : tie.Need-returns
 unfolding isKnown isHead headFirst inSequence roomForRow lengthRight
 returns c =
     let entry = c .before .before .before .args in
-    wrong-length Check (entry .table .now) (entry .at) Ordered (entry .frame) refl refl refl refl (ne-eqb (lengthAt (entry .table .now) (entry .at)) 2 (omega arith))
+    wrong-length Check (entry .table .now) (entry .at) Ordered (entry .frame) refl refl refl refl
+    (ne-eqb (lengthAt (entry .table .now) (entry .at)) 2 (omega arith))
 
 add-sum-of-words : tie.Need-add-sum-of-words
 add-sum-of-words c = search needs
@@ -30,13 +31,17 @@ returns-2 : tie.Need-returns-2
 unfolding isKnown isHead headFirst inSequence roomForRow lengthRight inRange noRepeat addsToZero
 returns-2 c =
     let entry = c .before .before .before .before .before .args in
-    not-zero Check (entry .table .now) (entry .at) Ordered (entry .frame) refl refl refl refl (eq-eqb (lengthAt (entry .table .now) (entry .at)) 2 (omega arith)) refl refl (rw (← c .before .sum-of-words .ensures) (ne-eqb (c .before .sum-of-words .result) 0 (c .if2 .taken)))
+    not-zero Check (entry .table .now) (entry .at) Ordered (entry .frame) refl refl refl refl
+    (eq-eqb (lengthAt (entry .table .now) (entry .at)) 2 (omega arith)) refl refl
+    (rw (← c .before .sum-of-words .ensures) (ne-eqb (c .before .sum-of-words .result) 0 (c .if2 .taken)))
 
 returns-3 : tie.Need-returns-3
 unfolding isKnown isHead headFirst inSequence roomForRow lengthRight inRange noRepeat addsToZero nextPhase nextFrame
 returns-3 c =
     let entry = c .before .before .before .before .before .args in
-    passes-all Check (entry .table .now) (entry .at) Ordered (entry .frame) refl refl refl refl (eq-eqb (lengthAt (entry .table .now) (entry .at)) 2 (omega arith)) refl refl (rw (← c .before .sum-of-words .ensures) (eq-eqb (c .before .sum-of-words .result) 0 (c .if2 .left)))
+    passes-all Check (entry .table .now) (entry .at) Ordered (entry .frame) refl refl refl refl
+    (eq-eqb (lengthAt (entry .table .now) (entry .at)) 2 (omega arith)) refl refl
+    (rw (← c .before .sum-of-words .ensures) (eq-eqb (c .before .sum-of-words .result) 0 (c .if2 .left)))
 
 pub check-spec : {M : Type 1} → statement M
 check-spec =

@@ -25,7 +25,9 @@ returns-2 : tie.Need-returns-2
 unfolding isKnown isHead headFirst inSequence roomForRow
 returns-2 c =
     let entry = c .before .before .before .before .before .args in
-    wrong-length Clause (entry .table .now) (entry .at) Rows (entry .frame) refl refl refl (lt-ltb (entry .frame .rows) 512 (c .before .before .if1 .left)) (clause-short (entry .frame .requests) (lengthAt (entry .table .now) (entry .at)) (omega arith))
+    wrong-length Clause (entry .table .now) (entry .at) Rows (entry .frame) refl refl refl
+    (lt-ltb (entry .frame .rows) 512 (c .before .before .if1 .left))
+    (clause-short (entry .frame .requests) (lengthAt (entry .table .now) (entry .at)) (omega arith))
 
 mul-if3 : tie.Need-mul-if3
 mul-if3 c = search needs
@@ -37,13 +39,17 @@ returns-3 : tie.Need-returns-3
 unfolding isKnown isHead headFirst inSequence roomForRow
 returns-3 c =
     let entry = c .before .before .before .before .before .before .args in
-    wrong-length Clause (entry .table .now) (entry .at) Rows (entry .frame) refl refl refl (lt-ltb (entry .frame .rows) 512 (c .before .before .before .if1 .left)) (clause-long (entry .frame .requests) (lengthAt (entry .table .now) (entry .at)) (omega arith))
+    wrong-length Clause (entry .table .now) (entry .at) Rows (entry .frame) refl refl refl
+    (lt-ltb (entry .frame .rows) 512 (c .before .before .before .if1 .left))
+    (clause-long (entry .frame .requests) (lengthAt (entry .table .now) (entry .at)) (omega arith))
 
 returns-4 : tie.Need-returns-4
 unfolding isKnown isHead headFirst inSequence roomForRow
 returns-4 c =
     let entry = c .before .before .before .before .before .before .before .args in
-    wrong-length Clause (entry .table .now) (entry .at) Rows (entry .frame) refl refl refl (lt-ltb (entry .frame .rows) 512 (c .before .before .before .before .if1 .left)) (clause-odd (entry .frame .requests) (lengthAt (entry .table .now) (entry .at)) (omega arith))
+    wrong-length Clause (entry .table .now) (entry .at) Rows (entry .frame) refl refl refl
+    (lt-ltb (entry .frame .rows) 512 (c .before .before .before .before .if1 .left))
+    (clause-odd (entry .frame .requests) (lengthAt (entry .table .now) (entry .at)) (omega arith))
 
 clause-in-range-requires : tie.Need-clause-in-range-requires
 clause-in-range-requires c κs = omega arith
@@ -53,7 +59,9 @@ unfolding isKnown isHead headFirst inSequence roomForRow inRange
 returns-5 c =
     let entry = c .before .before .before .before .before .before .before .before .before .args in
     let if1 = c .before .before .before .before .before .before .if1 in
-    out-of-range Clause (entry .table .now) (entry .at) Rows (entry .frame) refl refl refl (lt-ltb (entry .frame .rows) 512 (if1 .left)) (clause-right (entry .frame .requests) (lengthAt (entry .table .now) (entry .at)) (omega arith) (omega arith) (omega arith)) (sym (c .before .clause-in-range .ensures) ∙ not-true _ (c .if5 .taken))
+    out-of-range Clause (entry .table .now) (entry .at) Rows (entry .frame) refl refl refl (lt-ltb (entry .frame .rows) 512 (if1 .left))
+    (clause-right (entry .frame .requests) (lengthAt (entry .table .now) (entry .at)) (omega arith) (omega arith) (omega arith))
+    (sym (c .before .clause-in-range .ensures) ∙ not-true _ (c .if5 .taken))
 
 add-rows-so-far : tie.Need-add-rows-so-far
 add-rows-so-far c = search needs
@@ -66,7 +74,10 @@ unfolding isKnown isHead headFirst inSequence roomForRow inRange noRepeat addsTo
 returns-6 c =
     let entry = c .before .before .before .before .before .before .before .before .before .before .before .args in
     let if1 = c .before .before .before .before .before .before .before .before .if1 in
-    c .rows-so-far .ensures ∙ passes-all Clause (entry .table .now) (entry .at) Rows (entry .frame) refl refl refl (lt-ltb (entry .frame .rows) 512 (if1 .left)) (clause-right (entry .frame .requests) (lengthAt (entry .table .now) (entry .at)) (omega arith) (omega arith) (omega arith)) (sym (c .before .before .before .clause-in-range .ensures) ∙ not-false _ (c .before .before .if5 .left)) refl refl
+    c .rows-so-far .ensures
+    ∙ passes-all Clause (entry .table .now) (entry .at) Rows (entry .frame) refl refl refl (lt-ltb (entry .frame .rows) 512 (if1 .left))
+    (clause-right (entry .frame .requests) (lengthAt (entry .table .now) (entry .at)) (omega arith) (omega arith) (omega arith))
+    (sym (c .before .before .before .clause-in-range .ensures) ∙ not-false _ (c .before .before .if5 .left)) refl refl
 
 pub clause-spec : {M : Type 1} → statement M
 clause-spec =

@@ -34,7 +34,8 @@ returns-2 : tie.Need-returns-2
 unfolding isKnown isHead headFirst inSequence roomForRow lengthRight inRange
 returns-2 c =
     let entry = c .before .before .before .before .before .args in
-    λ f. out-of-range Head (entry .table .now) (entry .at) Start f refl refl refl refl (eq-eqb (lengthAt (entry .table .now) (entry .at)) 4 (omega arith)) (rw (lt-leb (u16At (entry .table .now) (entry .at + 4)) 20 (omega arith)))
+    λ f. out-of-range Head (entry .table .now) (entry .at) Start f refl refl refl refl
+    (eq-eqb (lengthAt (entry .table .now) (entry .at)) 4 (omega arith)) (rw (lt-leb (u16At (entry .table .now) (entry .at + 4)) 20 (omega arith)))
 
 add-number-2 : tie.Need-add-number-2
 add-number-2 c = search needs
@@ -46,7 +47,9 @@ returns-3 : tie.Need-returns-3
 unfolding isKnown isHead headFirst inSequence roomForRow lengthRight inRange
 returns-3 c =
     let entry = c .before .before .before .before .before .before .before .args in
-    λ f. out-of-range Head (entry .table .now) (entry .at) Start f refl refl refl refl (eq-eqb (lengthAt (entry .table .now) (entry .at)) 4 (omega arith)) (rw (lt-leb (u16At (entry .table .now) (entry .at + 6)) 64 (omega arith)) (and-false (leb (u16At (entry .table .now) (entry .at + 4)) 20)))
+    λ f. out-of-range Head (entry .table .now) (entry .at) Start f refl refl refl refl
+    (eq-eqb (lengthAt (entry .table .now) (entry .at)) 4 (omega arith))
+    (rw (lt-leb (u16At (entry .table .now) (entry .at + 6)) 64 (omega arith)) (and-false (leb (u16At (entry .table .now) (entry .at + 4)) 20)))
 
 rows-so-far-requires : tie.Need-rows-so-far-requires
 rows-so-far-requires c κs = search needs
@@ -55,7 +58,11 @@ returns-4 : tie.Need-returns-4
 unfolding isKnown isHead headFirst inSequence roomForRow lengthRight inRange noRepeat addsToZero nextPhase nextFrame
 returns-4 c =
     let entry = c .before .before .before .before .before .before .before .before .args in
-    λ f. rw (c .rows-so-far .ensures, c .before .before .before .before .number2 .ensures .0, c .before .before .number3 .ensures .0) (passes-all Head (entry .table .now) (entry .at) Start f refl refl refl refl (eq-eqb (lengthAt (entry .table .now) (entry .at)) 4 (omega arith)) (rw (le-leb (u16At (entry .table .now) (entry .at + 4)) 20 (omega arith), le-leb (u16At (entry .table .now) (entry .at + 6)) 64 (omega arith))) refl refl)
+    λ f. rw (c .rows-so-far .ensures, c .before .before .before .before .number2 .ensures .0, c .before .before .number3 .ensures .0)
+    (passes-all Head (entry .table .now) (entry .at) Start f refl refl refl refl (eq-eqb (lengthAt (entry .table .now) (entry .at)) 4 (omega arith)) (rw (
+      le-leb (u16At (entry .table .now) (entry .at + 4)) 20 (omega arith),
+      le-leb (u16At (entry .table .now) (entry .at + 6)) 64 (omega arith),
+    )) refl refl)
 
 pub head-spec : {M : Type 1} → statement M
 head-spec =

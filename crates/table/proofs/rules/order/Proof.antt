@@ -22,7 +22,8 @@ returns : tie.Need-returns
 unfolding isKnown isHead headFirst inSequence roomForRow lengthRight
 returns c =
     let entry = c .before .before .before .args in
-    wrong-length Order (entry .table .now) (entry .at) Rows (entry .frame) refl refl refl refl (ne-eqb (lengthAt (entry .table .now) (entry .at)) (2 * entry .frame .requests) (omega arith))
+    wrong-length Order (entry .table .now) (entry .at) Rows (entry .frame) refl refl refl refl
+    (ne-eqb (lengthAt (entry .table .now) (entry .at)) (2 * entry .frame .requests) (omega arith))
 
 add-words-within : tie.Need-add-words-within
 add-words-within c = search needs
@@ -37,7 +38,9 @@ returns-2 : tie.Need-returns-2
 unfolding isKnown isHead headFirst inSequence roomForRow lengthRight inRange
 returns-2 c =
     let entry = c .before .before .before .before .before .args in
-    out-of-range Order (entry .table .now) (entry .at) Rows (entry .frame) refl refl refl refl (eq-eqb (lengthAt (entry .table .now) (entry .at)) (2 * entry .frame .requests) (omega arith)) (sym (c .before .words-within .ensures) ∙ not-true _ (c .if2 .taken))
+    out-of-range Order (entry .table .now) (entry .at) Rows (entry .frame) refl refl refl refl
+    (eq-eqb (lengthAt (entry .table .now) (entry .at)) (2 * entry .frame .requests) (omega arith))
+    (sym (c .before .words-within .ensures) ∙ not-true _ (c .if2 .taken))
 
 add-are-different : tie.Need-add-are-different
 add-are-different c = search needs
@@ -49,13 +52,19 @@ returns-3 : tie.Need-returns-3
 unfolding isKnown isHead headFirst inSequence roomForRow lengthRight inRange noRepeat
 returns-3 c =
     let entry = c .before .before .before .before .before .before .before .args in
-    named-twice Order (entry .table .now) (entry .at) Rows (entry .frame) refl refl refl refl (eq-eqb (lengthAt (entry .table .now) (entry .at)) (2 * entry .frame .requests) (omega arith)) (sym (c .before .before .before .words-within .ensures) ∙ not-false _ (c .before .before .if2 .left)) (sym (c .before .are-different .ensures) ∙ not-true _ (c .if3 .taken))
+    named-twice Order (entry .table .now) (entry .at) Rows (entry .frame) refl refl refl refl
+    (eq-eqb (lengthAt (entry .table .now) (entry .at)) (2 * entry .frame .requests) (omega arith))
+    (sym (c .before .before .before .words-within .ensures) ∙ not-false _ (c .before .before .if2 .left))
+    (sym (c .before .are-different .ensures) ∙ not-true _ (c .if3 .taken))
 
 returns-4 : tie.Need-returns-4
 unfolding isKnown isHead headFirst inSequence roomForRow lengthRight inRange noRepeat addsToZero nextPhase nextFrame
 returns-4 c =
     let entry = c .before .before .before .before .before .before .before .args in
-    passes-all Order (entry .table .now) (entry .at) Rows (entry .frame) refl refl refl refl (eq-eqb (lengthAt (entry .table .now) (entry .at)) (2 * entry .frame .requests) (omega arith)) (sym (c .before .before .before .words-within .ensures) ∙ not-false _ (c .before .before .if2 .left)) (sym (c .before .are-different .ensures) ∙ not-false _ (c .if3 .left)) refl
+    passes-all Order (entry .table .now) (entry .at) Rows (entry .frame) refl refl refl refl
+    (eq-eqb (lengthAt (entry .table .now) (entry .at)) (2 * entry .frame .requests) (omega arith))
+    (sym (c .before .before .before .words-within .ensures) ∙ not-false _ (c .before .before .if2 .left))
+    (sym (c .before .are-different .ensures) ∙ not-false _ (c .if3 .left)) refl
 
 pub order-spec : {M : Type 1} → statement M
 order-spec =

@@ -27,7 +27,10 @@ unfolding headFirst inSequence
 returns-2 c =
     let entry = c .before .before .before .before .args in
     let word = c .before .before .word in
-    λ f. rw (← word .ensures .0) (out-of-sequence (kindOf (word .result)) (entry .table .now) (entry .at) Checked f (later-known (word .result) (omega (arith, c .before .match .rest)) (omega (arith, c .before .match .rest))) (rw (later-no-head (word .result) (omega (arith, c .before .match .rest)) (omega (arith, c .before .match .rest)))) refl)
+    λ f. rw (← word .ensures .0)
+    (out-of-sequence (kindOf (word .result)) (entry .table .now) (entry .at) Checked f
+    (later-known (word .result) (omega (arith, c .before .match .rest)) (omega (arith, c .before .match .rest)))
+    (rw (later-no-head (word .result) (omega (arith, c .before .match .rest)) (omega (arith, c .before .match .rest)))) refl)
 
 returns-3 : tie.Need-returns-3
 unfolding kindOf isKnown

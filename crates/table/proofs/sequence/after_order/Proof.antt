@@ -34,7 +34,11 @@ unfolding headFirst
 returns-3 c =
     let entry = c .before .before .before .before .args in
     let word = c .before .before .word in
-    rw (← word .ensures .0) (out-of-sequence (kindOf (word .result)) (entry .table .now) (entry .at) Ordered (entry .frame) (later-known (word .result) (omega (arith, c .before .match .rest)) (omega (arith, c .before .match .rest))) (rw (later-no-head (word .result) (omega (arith, c .before .match .rest)) (omega (arith, c .before .match .rest)))) (only-check-after-order (word .result) (omega (arith, c .before .match .rest)) (omega (arith, c .before .match .rest))))
+    rw (← word .ensures .0)
+    (out-of-sequence (kindOf (word .result)) (entry .table .now) (entry .at) Ordered (entry .frame)
+    (later-known (word .result) (omega (arith, c .before .match .rest)) (omega (arith, c .before .match .rest)))
+    (rw (later-no-head (word .result) (omega (arith, c .before .match .rest)) (omega (arith, c .before .match .rest))))
+    (only-check-after-order (word .result) (omega (arith, c .before .match .rest)) (omega (arith, c .before .match .rest))))
 
 returns-4 : tie.Need-returns-4
 unfolding kindOf isKnown
@@ -47,7 +51,8 @@ unfolding isKnown
 returns-5 c =
     let entry = c .before .before .before .before .args in
     let word = c .before .before .word in
-    rw (← word .ensures .0, above-five (word .result) (omega (arith, c .before .match .rest))) (unknown-kind Unknown (entry .table .now) (entry .at) Ordered (entry .frame) refl)
+    rw (← word .ensures .0, above-five (word .result) (omega (arith, c .before .match .rest)))
+    (unknown-kind Unknown (entry .table .now) (entry .at) Ordered (entry .frame) refl)
 
 pub after-order-spec : {M : Type 1} → statement M
 after-order-spec =

@@ -59,7 +59,8 @@ returns-7 : tie.Need-returns-7
 unfolding isKnown
 returns-7 c =
     let entry = c .before .before .before .args in
-    rw (← c .before .word .ensures .0, above-five (c .before .word .result) (omega (arith, c .match .rest))) (unknown-kind Unknown (entry .table .now) (entry .at) Rows (entry .frame) refl)
+    rw (← c .before .word .ensures .0, above-five (c .before .word .result) (omega (arith, c .match .rest)))
+    (unknown-kind Unknown (entry .table .now) (entry .at) Rows (entry .frame) refl)
 
 pub among-rows-spec : {M : Type 1} → statement M
 among-rows-spec =

@@ -28,7 +28,10 @@ unfolding headFirst
 returns-2 c =
     let entry = c .before .before .before .before .args in
     let word = c .before .before .word in
-    λ f. rw (← word .ensures .0) (no-head (kindOf (word .result)) (entry .table .now) (entry .at) Start f (later-known (word .result) (omega (arith, c .before .match .rest)) (omega (arith, c .before .match .rest))) (later-no-head (word .result) (omega (arith, c .before .match .rest)) (omega (arith, c .before .match .rest))))
+    λ f. rw (← word .ensures .0)
+    (no-head (kindOf (word .result)) (entry .table .now) (entry .at) Start f
+    (later-known (word .result) (omega (arith, c .before .match .rest)) (omega (arith, c .before .match .rest)))
+    (later-no-head (word .result) (omega (arith, c .before .match .rest)) (omega (arith, c .before .match .rest))))
 
 returns-3 : tie.Need-returns-3
 unfolding kindOf isKnown

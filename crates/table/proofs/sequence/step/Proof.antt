@@ -49,22 +49,26 @@ after-check-requires c κs = search needs
 returns-3 : tie.Need-returns-3
 returns-3 c =
     let entry = c .before .before .before .before .before .before .before .before .args in
-    whole-step (entry .table .now) (entry .at) (entry .state) Start (c .before .enum-told .given .1) (omega arith) (c .first .result) (c .first .ensures (entry .state .frame))
+    whole-step (entry .table .now) (entry .at) (entry .state) Start (c .before .enum-told .given .1)
+    (omega arith) (c .first .result) (c .first .ensures (entry .state .frame))
 
 returns-4 : tie.Need-returns-4
 returns-4 c =
     let entry = c .before .before .before .before .before .before .before .before .args in
-    whole-step (entry .table .now) (entry .at) (entry .state) Rows (c .before .enum-told2 .given .1) (omega arith) (c .among-rows .result) (c .among-rows .ensures)
+    whole-step (entry .table .now) (entry .at) (entry .state) Rows
+    (c .before .enum-told2 .given .1) (omega arith) (c .among-rows .result) (c .among-rows .ensures)
 
 returns-5 : tie.Need-returns-5
 returns-5 c =
     let entry = c .before .before .before .before .before .before .before .before .args in
-    whole-step (entry .table .now) (entry .at) (entry .state) Ordered (c .before .enum-told3 .given .1) (omega arith) (c .after-order .result) (c .after-order .ensures)
+    whole-step (entry .table .now) (entry .at) (entry .state) Ordered
+    (c .before .enum-told3 .given .1) (omega arith) (c .after-order .result) (c .after-order .ensures)
 
 returns-6 : tie.Need-returns-6
 returns-6 c =
     let entry = c .before .before .before .before .before .before .before .before .args in
-    whole-step (entry .table .now) (entry .at) (entry .state) Checked (c .before .enum-told4 .given .1) (omega arith) (c .after-check .result) (c .after-check .ensures (entry .state .frame))
+    whole-step (entry .table .now) (entry .at) (entry .state) Checked (c .before .enum-told4 .given .1)
+    (omega arith) (c .after-check .result) (c .after-check .ensures (entry .state .frame))
 
 pub step-spec : {M : Type 1} → statement M
 step-spec =
