@@ -16,7 +16,7 @@ use Rattle.explain.specs.declared.answers.Method.{Method}
 use Rattle.explain.specs.Methods.{answerBy}
 use Rattle.promises.specs.Selecting.{namesAbove, canStand}
 use Rattle.promises.specs.Reports.{tableQuestion, roomFor, placeAfter, bufferAfter}
-use Rattle.promises.specs.Calls.{namesTooMuch, noRoom, Told, Stands, CanStandCall, Left, Reported, ReportCall}
+use Rattle.promises.specs.Calls.{namesTooMuch, noRoom, Told, QuestionAnswered, CanStandCall, Left, Reported, ReportCall}
 use Rattle.promises.specs.Demands.{EveryCallIsAnswered, OnlyOneOutcome}
 use Rattle.promises.proofs.Monotone.{question-is-monotone}
 use Rattle.promises.proofs.RightAnswers.{right-answer, only-one-right-answer}
@@ -39,7 +39,10 @@ same-bit (suc a) b h g p q = let e : suc a ≡ 1 = omega arith in e ∙ sym (q .
 
 -- two answers to one question
 same-stands :
-    {t : List ℕ} {f : Frame} {selection n s p n′ s′ p′ : ℕ} → Stands t f selection n s p → Stands t f selection n′ s′ p′ → Told n s p n′ s′ p′
+    {t : List ℕ} {f : Frame} {selection n s p n′ s′ p′ : ℕ} →
+    QuestionAnswered t f selection n s p →
+    QuestionAnswered t f selection n′ s′ p′ →
+    Told n s p n′ s′ p′
 same-stands {s = s} {s′ = s′} a b =
     record {
       number-is = a .number-is ∙ sym (b .number-is);

@@ -16,7 +16,7 @@ use Rattle.preference.specs.Answer.{Answer}
 use Rattle.explain.specs.declared.answers.Method.{Method}
 use Rattle.promises.specs.Selecting.{namesAbove, selectionOf, SomeSettingMeets, canStand}
 use Rattle.promises.specs.Reports.{tableQuestion, roomFor, placeAfter, bufferAfter}
-use Rattle.promises.specs.Calls.{namesTooMuch, noRoom, Told, Stands, CanStandCall, RightAnswer, Left, Reported, ReportCall}
+use Rattle.promises.specs.Calls.{namesTooMuch, noRoom, Told, QuestionAnswered, CanStandCall, RightAnswer, Left, Reported, ReportCall}
 
 -- true is not false
 clash : {X : Type 0} {b : Bool} → b ≡ true → b ≡ false → X
@@ -79,7 +79,7 @@ module _ (t : List ℕ) (selection : ℕ) where
           refused = λ r g. not-both e g;
           too-much = λ other g h. clash h (rw (one-frame e g) at low);
           answered =
-              λ other g h. subst (λ (x : Frame). Stands t x selection 0 (cond (canStand t f selection) 1 0) 0) (one-frame e g)
+              λ other g h. subst (λ (x : Frame). QuestionAnswered t x selection 0 (cond (canStand t f selection) 1 0) 0) (one-frame e g)
               (record { number-is = refl; place-is = refl; bit = bit-of (canStand t f selection); exactly = one-exactly });
         }
       where

@@ -40,14 +40,14 @@ pub record BodyCall (t : List ℕ) (wanted number size place : ℕ) : Type 0 whe
   pub size-is : size ≡ sizeOfStretch (stretchOf t wanted)
   pub place-is : place ≡ placeOfStretch (stretchOf t wanted)
 
--- what a refused question returns: a number, 0 for the answer, and a place
+-- what the question returns: its number, answer and place are these
 pub record Told (number stands place : ℕ) (number′ stands′ place′ : ℕ) : Type 0 where
   pub number-is : number ≡ number′
   pub stands-is : stands ≡ stands′
   pub place-is : place ≡ place′
 
 -- the answer: 1 exactly where some setting meets the host rows and those of the selected requests, else 0
-pub record Stands (t : List ℕ) (f : Frame) (selection number stands place : ℕ) : Type 0 where
+pub record QuestionAnswered (t : List ℕ) (f : Frame) (selection number stands place : ℕ) : Type 0 where
   pub number-is : number ≡ 0
   pub place-is : place ≡ 0
   pub bit : stands ≤ 1
@@ -57,7 +57,7 @@ pub record Stands (t : List ℕ) (f : Frame) (selection number stands place : �
 pub record CanStandCall (t : List ℕ) (selection number stands place : ℕ) : Type 0 where
   pub refused : (r : Refusal) → reading t ≡ Refused r → Told number stands place (r .number) 0 (r .place)
   pub too-much : (f : Frame) → reading t ≡ Accepted f → namesAbove (f .requests) selection ≡ true → Told number stands place namesTooMuch 0 0
-  pub answered : (f : Frame) → reading t ≡ Accepted f → namesAbove (f .requests) selection ≡ false → Stands t f selection number stands place
+  pub answered : (f : Frame) → reading t ≡ Accepted f → namesAbove (f .requests) selection ≡ false → QuestionAnswered t f selection number stands place
 
 -- the set of a conflict: the preferred one of Definition 7 where there is one to name (status 1), else none
 pub record ConflictSet (ok : Question) (n : ℕ) (answer : Answer) : Type 0 where
