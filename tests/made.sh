@@ -9,7 +9,7 @@ cd "$(dirname "$0")/.." || exit 2
 . ./hainscope
 room=$(mktemp -d) || exit 2
 trap 'rm -rf "$room"' EXIT
-write=(cargo run --quiet --manifest-path rust/Cargo.toml --release --offline -p lines)
+write=(cargo run --quiet --manifest-path rust/Cargo.toml --release --offline -p expected_lines)
 
 # answer_file TABLE: as ./hainscope TABLE
 answer_file() (

@@ -133,7 +133,7 @@ module _
               (l .set);
         }
 
--- the part is cut: both halves were worked
+-- the part is cut: both halves were worked, and the second was asked about where the first one dropped something
 pub is-cut :
     (ok : Question) (from count : ℕ) (asking : Bool) (X F : Selection) (told : Bool) →
     WholeTried ok from count asking X F told →
@@ -143,9 +143,12 @@ pub is-cut :
     2 ≤ count →
     (F1 F2 : Selection) (f1 a1 f2 a2 : ℕ) →
     RelaxationWorked ok from (count / 2) true F F1 f1 a1 →
-    RelaxationWorked ok (from + count / 2) (count - count / 2) (ltb 0 f1) F1 F2 f2 a2 →
+    (dropping : Bool) →
+    RelaxationWorked ok (from + count / 2) (count - count / 2) dropping F1 F2 f2 a2 →
+    dropping ≡ ltb 0 f1 →
     RelaxationWorked ok from count asking X F2 (f1 + f2) (asked + (a1 + a2))
-is-cut ok from count asking X F told tried h asked counted more F1 F2 f1 a1 f2 a2 first second P after l g =
+is-cut ok from count asking X F told tried h asked counted more F1 F2 f1 a1 f2 a2 first dropping worked same P after l g =
+    let second = rw same at worked in
     let rest : ℕ = count - count / 2 in
     let k1 : Part = halveRelax ok (middle (count / 2)) P (rest + after) true in
     let l1 = first P (rest + after) l (first-ground count (count / 2) after F P (omega arith) (tried P after l g .left-out h)) in

@@ -8,13 +8,11 @@ use native.Mathlib.Numerals.{add-one}
 use lib.Dec.{leb}
 use lib.ListN.{length, take, drop, set, drop-of-length-le, length-drop}
 use lib.Seq.{sets, sets-eq}
-use borrow.Author.Tests.{leb-true}
 use borrow.Rule.Slice.PartMut.{putMid}
 use Rattle.table.specs.declared.record.Frame.{Frame}
 use Rattle.table.specs.Words.{u16At, words}
 use Rattle.table.specs.Kept.{Kept, orderOf}
 use Rattle.table.proofs.Runs.{words-turn}
-use Rattle.table.proofs.Steps.{both}
 use Rattle.preference.specs.Selection.{Selection}
 use Rattle.preference.specs.Answer.{Answer}
 use Rattle.explain.specs.declared.answers.Method.{Method}

@@ -1,23 +1,21 @@
 -- The bound by the reports: what stands in the bytes of a report is the method's answer, and so its count is bounded.
-use Prim.Native.Nat.{ℕ, _+_, _*_, _-_, _≤_}
-use mathlib.Core.Path.{_≡_, refl, sym, ap, _∙_}
+use Prim.Native.Nat.{ℕ, _+_, _-_, _≤_}
+use mathlib.Core.Path.{_≡_, sym, ap, _∙_}
 use mathlib.Core.Bool.{true}
-use mathlib.Core.List.{List, _++_}
+use mathlib.Core.List.{List}
 use native.Mathlib.Omega.{arith}
-use lib.ListN.{length, take, drop, getD}
+use lib.ListN.{length, take, drop}
 use lib.Seq.{length-take-le, drop-at}
 use Rattle.table.specs.declared.record.Frame.{Frame}
 use Rattle.table.specs.declared.reading.Reading.the-variants.{Accepted}
 use Rattle.table.specs.Reading.{reading}
-use Rattle.table.specs.Kept.{Kept, orderOf}
+use Rattle.table.specs.Kept.{orderOf}
 use Rattle.table.proofs.Accepted.{accepted-keeps}
 use Rattle.table.proofs.RecordsStand.{length-words}
-use Rattle.preference.specs.Selection.{Selection, kept, dropped}
-use Rattle.preference.specs.Named.{named}
+use Rattle.preference.specs.Selection.{kept, dropped}
 use Rattle.preference.specs.Question.{Question}
 use Rattle.preference.specs.Cut.{half}
 use Rattle.preference.specs.Answer.{Answer, relaxationByHalving}
-use Rattle.preference.specs.Depth.{depths}
 use Rattle.preference.proofs.Selections.{kept-and-dropped, length-named}
 use Rattle.preference.proofs.Trees.{half-cuts}
 use Rattle.preference.proofs.Lengths.{length-conflict-one-by-one, length-relaxation-one-by-one, length-conflict-by-cut, length-relaxation-by-cut}

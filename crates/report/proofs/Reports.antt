@@ -1,14 +1,13 @@
 -- What holds of every report's bytes: how they begin, how many they are, and that a reader finds in them what the report says.
 use Prim.Native.Nat.{ℕ, _+_, _*_}
 use mathlib.Core.Path.{_≡_, refl, ap, _∙_}
-use mathlib.Core.List.{List, [], _++_, append-nil}
+use mathlib.Core.List.{List, _++_}
 use native.Mathlib.Omega.{arith}
 use lib.ListN.{length, drop}
-use lib.Seq.{drop-at}
-use Rattle.table.specs.Words.{u16At, u32At, words}
+use Rattle.table.specs.Words.{u16At, words}
 use Rattle.table.specs.Encoding.{u16, u32, recordOf, encodeNumbers}
 use Rattle.table.proofs.Sizes.{length-numbers, length-record}
-use Rattle.table.proofs.Standing.{past, u16-read, u32-read, past-u16, numbers-read}
+use Rattle.table.proofs.Standing.{past, u16-read, u32-read, numbers-read}
 use Rattle.table.proofs.RecordsRead.{record-read}
 use Rattle.report.specs.Report.{reportBody, reportBytes, statusAt, countAt, namedAt, numbersAt}
 use Rattle.report.specs.Written.{headBytes}

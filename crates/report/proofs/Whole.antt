@@ -8,7 +8,6 @@ use lib.Seq.{sets, sets-eq, drop-at, length-take-le, length-sets}
 use Rattle.preference.specs.Selection.{Selection}
 use Rattle.preference.specs.Named.{named}
 use Rattle.table.specs.Encoding.{encodeNumbers}
-use Rattle.report.specs.Report.{reportBytes}
 use Rattle.report.specs.Written.{headBytes, NumbersWritten, Written}
 use Rattle.table.proofs.Sizes.{length-numbers}
 use Rattle.report.proofs.Reports.{head-length, report-headed}

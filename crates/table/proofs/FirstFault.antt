@@ -1,7 +1,5 @@
 -- The first fault of closed tables and records, computed.
-use Prim.Native.Nat.{ℕ}
 use mathlib.Core.Path.{refl}
-use lib.Dec.{ltb}
 use lib.ListN.{length}
 use borrow.Author.Tests.{lt-ltb}
 use Rattle.table.specs.Words.{u16At, u32At, i32At, words, total}

@@ -7,10 +7,8 @@ use mathlib.Core.List.{List, [], _∷_, _++_}
 use lib.ListN.{length, replicate}
 use Rattle.table.specs.declared.record.Phase.{Phase}
 use Rattle.table.specs.declared.record.Phase.the-variants.{Start, Rows, Ordered}
-use Rattle.table.specs.declared.record.Frame.{Frame}
 use Rattle.table.specs.declared.record.Step.{Step}
 use Rattle.table.specs.declared.record.Step.the-variants.{Next, Stop}
-use Rattle.table.specs.declared.reading.Reading.{Reading}
 use Rattle.table.specs.Reading.{stepAt, inPhase, reading, refusedAt}
 use Rattle.table.specs.Sheet.{tableA}
 

@@ -153,5 +153,5 @@ fn the_sample_sheet() {
             );
         }
     }
-    assert_eq!(tally.all(), 44);
+    assert_eq!(tally.all(), 48);
 }

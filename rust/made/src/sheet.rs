@@ -1,5 +1,6 @@
 //! The sample sheet of document 01: rows A to K as plans, with the halving answers that it prints,
-//! and the bytes of row H's table as the document writes them.
+//! and the bytes of row H's table as the document writes them. Beside them stands a row of three
+//! requests, a number that halving cuts into one and two.
 
 use crate::plan::{refuses, wants, Plan};
 
@@ -8,7 +9,7 @@ pub type Printed = (u16, u32, &'static [u16]);
 
 /// One row of the sheet.
 pub struct SheetRow {
-    /// A to K.
+    /// A to K, or three.
     pub name: &'static str,
     /// Its table as a plan.
     pub plan: Plan,
@@ -40,7 +41,7 @@ pub fn bib_map(bound: i32) -> Plan {
     plan.ordered(&[2, 4, 1, 3])
 }
 
-/// Rows A to K.
+/// Rows A to K, and that of three requests, which want 1, 1 and 2 of a budget of 2.
 pub fn sheet() -> Vec<SheetRow> {
     let x0 = wants(0);
     let not_x0 = refuses(0);
@@ -51,6 +52,10 @@ pub fn sheet() -> Vec<SheetRow> {
     let g = g.clause(1, &[x0]).clause(2, &[x0]);
     let j = Plan::empty(1, 1).linear(0, 1, &[(0, 1), (0, 1)]);
     let k = Plan::empty(1, 1).linear(0, -1, &[(0, -3)]);
+    let three = Plan::empty(3, 3).linear(0, 2, &[(0, 1), (1, 1), (2, 2)]);
+    let three = (1..=3).fold(three, |plan, request| {
+        plan.clause(request, &[wants(request - 1)])
+    });
     vec![
         row("A", Plan::empty(0, 0), (0, 1, &[]), (0, 1, &[])),
         row("B", empty_clause(0, 0), (2, 1, &[]), (2, 1, &[])),
@@ -63,6 +68,7 @@ pub fn sheet() -> Vec<SheetRow> {
         row("I", bib_map(4100), (1, 7, &[2, 1, 3]), (1, 4, &[2, 4, 1])),
         row("J", j.clause(1, &[x0]), (1, 2, &[1]), (1, 2, &[])),
         row("K", k.clause(1, &[not_x0]), (1, 2, &[1]), (1, 2, &[])),
+        row("three", three, (1, 6, &[1, 3]), (1, 4, &[1, 2])),
     ]
 }
 

@@ -1,4 +1,4 @@
-//! The sample sheet of document 01, rows A to K, from table bytes to the answers,
+//! The sample sheet of document 01, and a row of three requests, from table bytes to the answers,
 //! and the program's lines.
 
 use made::plan::Plan;
@@ -9,7 +9,7 @@ use second::report::answer;
 use second::rows::Event;
 
 #[test]
-fn rows_a_to_k_by_halving() {
+fn every_row_by_halving() {
     for row in sheet() {
         let event = Event::of(&row.plan.table()).expect(row.name);
         for (sought, (status, count, set)) in [

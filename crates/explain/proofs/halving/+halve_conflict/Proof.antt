@@ -1,10 +1,9 @@
 -- `explain::halving::halve_conflict` meets its contract.
 use native.Mathlib.Omega.{arith}
-use mathlib.Core.Path.{refl, _∙_}
+use mathlib.Core.Path.{_∙_}
 use Prim.Native.Nat.{_+_, _<_}
 use borrow.Author.Needs.{needs}
 use Prim.Native.Nat.{_-_}
-use lib.ListN.{length-set}
 use Rattle.explain.specs.Asking.{questionOf}
 use Rattle.explain.proofs.Questions.{relent, one-question}
 use Rattle.explain.proofs.ConflictParts.{gives-nothing, gives-the-request, is-cut, second-ready, first-ready, few-in-conflict, part-within}
@@ -53,12 +52,10 @@ calls t = (
 )
 
 halve-conflict-ground-fails-requires : (t : ℕ) → halve-conflict-lts.Need-ground-fails-requires (calls t) (halve-conflict-at t) halve-conflict.Post
-halve-conflict-ground-fails-requires t c κs =
-    let known = c .before .before .before .before .before .before .pre in
-    known .1 .0
+halve-conflict-ground-fails-requires t c κs = search needs
 
 halve-conflict-same-length : (t : ℕ) → halve-conflict-lts.Need-same-length (calls t) (halve-conflict-at t) halve-conflict.Post
-halve-conflict-same-length t c = refl
+halve-conflict-same-length t c = search needs
 
 halve-conflict-returns : (t : ℕ) → halve-conflict-lts.Need-returns (calls t) (halve-conflict-at t) halve-conflict.Post
 halve-conflict-returns t c =
@@ -77,7 +74,7 @@ halve-conflict-slice-write-flags t c =
     omega (arith, (part-within (entry .from) (entry .count) (entry .flags .now) (known .1 .1)), known .1 .1 .some)
 
 halve-conflict-same-length-2 : (t : ℕ) → halve-conflict-lts.Need-same-length-2 (calls t) (halve-conflict-at t) halve-conflict.Post
-halve-conflict-same-length-2 t c = simp length-set
+halve-conflict-same-length-2 t c = search needs
 
 halve-conflict-returns-2 : (t : ℕ) → halve-conflict-lts.Need-returns-2 (calls t) (halve-conflict-at t) halve-conflict.Post
 halve-conflict-returns-2 t c =
@@ -261,15 +258,7 @@ halve-conflict-add-t39 t c =
     )
 
 halve-conflict-same-length-3 : (t : ℕ) → halve-conflict-lts.Need-same-length-3 (calls t) (halve-conflict-at t) halve-conflict.Post
-halve-conflict-same-length-3 t c =
-    let fill =
-    c .before .before .before .before .before .before .before .before .before .before .before .before
-    .before .before .before .before .before .before .before .before .before .before .before .fill in
-    let halve-conflict =
-    c .before .before .before .before .before .before .before .before .before .before .before .before .before .before .before .before .before .halve-conflict in
-    let fill2 = c .before .before .before .before .before .before .before .before .before .before .before .before .before .fill2 in
-    let halve-conflict2 = c .before .before .before .before .before .before .halve-conflict2 in
-    (halve-conflict2 .kept .1 .1 .1 .0) ∙ (fill2 .kept .0) ∙ (halve-conflict .kept .1 .1 .1 .0) ∙ (fill .kept .0)
+halve-conflict-same-length-3 t c = search needs
 
 halve-conflict-returns-3 : (t : ℕ) → halve-conflict-lts.Need-returns-3 (calls t) (halve-conflict-at t) halve-conflict.Post
 halve-conflict-returns-3 t c =

@@ -1,6 +1,6 @@
 -- `explain::halving::halve_relaxation` meets its contract.
 use native.Mathlib.Omega.{arith}
-use mathlib.Core.Path.{_∙_}
+use mathlib.Core.Path.{_∙_, refl}
 use Prim.Native.Nat.{_+_, _<_}
 use borrow.Author.Needs.{needs}
 use Prim.Native.Nat.{_-_}
@@ -42,12 +42,10 @@ abbrev calls : ℕ → halve-relaxation-lts.Claims
 calls t = (stands-whole-reads.Asked, stands-whole-reads.Learnt, questions-reads.Asked, questions-reads.Learnt, halve-relaxation-below t, halve-relaxation.Post)
 
 halve-relaxation-stands-whole-requires : (t : ℕ) → halve-relaxation-lts.Need-stands-whole-requires (calls t) (halve-relaxation-at t) halve-relaxation.Post
-halve-relaxation-stands-whole-requires t c κs =
-    let known = c .before .before .before .before .before .before .pre in
-    known .1
+halve-relaxation-stands-whole-requires t c κs = search needs
 
 halve-relaxation-same-length : (t : ℕ) → halve-relaxation-lts.Need-same-length (calls t) (halve-relaxation-at t) halve-relaxation.Post
-halve-relaxation-same-length t c = (c .before .before .before .stands-whole .kept .1 .1 .1 .0)
+halve-relaxation-same-length t c = search needs
 
 halve-relaxation-returns : (t : ℕ) → halve-relaxation-lts.Need-returns (calls t) (halve-relaxation-at t) halve-relaxation.Post
 halve-relaxation-returns t c =
@@ -61,9 +59,7 @@ halve-relaxation-questions-requires : (t : ℕ) → halve-relaxation-lts.Need-qu
 halve-relaxation-questions-requires t c κs = search needs
 
 halve-relaxation-same-length-2 : (t : ℕ) → halve-relaxation-lts.Need-same-length-2 (calls t) (halve-relaxation-at t) halve-relaxation.Post
-halve-relaxation-same-length-2 t c =
-    let stands-whole = c .before .before .before .before .before .stands-whole in
-    (stands-whole .kept .1 .1 .1 .0)
+halve-relaxation-same-length-2 t c = search needs
 
 halve-relaxation-returns-2 : (t : ℕ) → halve-relaxation-lts.Need-returns-2 (calls t) (halve-relaxation-at t) halve-relaxation.Post
 halve-relaxation-returns-2 t c =
@@ -229,13 +225,7 @@ halve-relaxation-add-t33 t c =
     )
 
 halve-relaxation-same-length-3 : (t : ℕ) → halve-relaxation-lts.Need-same-length-3 (calls t) (halve-relaxation-at t) halve-relaxation.Post
-halve-relaxation-same-length-3 t c =
-    let stands-whole =
-    c .before .before .before .before .before .before .before .before .before .before .before .before
-    .before .before .before .before .before .before .before .before .before .before .stands-whole in
-    let halve-relaxation = c .before .before .before .before .before .before .before .before .before .before .before .before .before .halve-relaxation in
-    let halve-relaxation2 = c .before .before .before .before .before .before .halve-relaxation2 in
-    (halve-relaxation2 .kept .1 .1 .1 .0) ∙ (halve-relaxation .kept .1 .1 .1 .0) ∙ (stands-whole .kept .1 .1 .1 .0)
+halve-relaxation-same-length-3 t c = search needs
 
 halve-relaxation-returns-3 : (t : ℕ) → halve-relaxation-lts.Need-returns-3 (calls t) (halve-relaxation-at t) halve-relaxation.Post
 halve-relaxation-returns-3 t c =
@@ -259,7 +249,7 @@ halve-relaxation-returns-3 t c =
     let halve-relaxation2 = c .before .before .before .before .before .before .halve-relaxation2 in
     is-cut (questionOf (entry .table .now) (entry .frame) (entry .order .now)) (entry .from) (entry .count) (entry .asking)
     (entry .flags .now) _ (stands-whole .result) (stands-whole .ensures) (if1 .left) (questions .result) (questions .ensures)
-    (omega (arith, if2 .left, known .1 .1 .some)) _ _ _ _ _ _ (halve-relaxation .ensures) (halve-relaxation2 .ensures)
+    (omega (arith, if2 .left, known .1 .1 .some)) _ _ _ _ _ _ (halve-relaxation .ensures) _ (halve-relaxation2 .ensures) refl
 
 pub +halve-relaxation-spec : {M : Type 1} → statement M
 +halve-relaxation-spec = close μ-halve-relaxation λ t. halve-relaxation-lts.spec (calls t)

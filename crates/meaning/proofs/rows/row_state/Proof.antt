@@ -13,7 +13,7 @@ use Rattle.table.proofs.words.number.Reads as number-reads
 
 -- src/rows.rt:21:9
 number-requires : tie.Need-number-requires
-number-requires c κs = omega (arith, c .before .before .pre .row-kept .whole)
+number-requires c κs = search needs
 
 -- src/rows.rt:22:22
 add-number : tie.Need-add-number

@@ -56,9 +56,7 @@ add-result-2 c = omega arith
 
 -- src/rows.rt:51:13
 same-length : tie.Need-same-length Inv-loop μ-loop
-same-length c =
-    let loop = c .before .before .before .before .before .before .before .before .loop in
-    rw (c .before .before .exchange .ensures) (length-exchanged _ _ _ ∙ loop .inv .2)
+same-length c = search needs
 
 -- src/rows.rt:51:13
 returns : tie.Need-returns Inv-loop μ-loop
@@ -102,7 +100,7 @@ loop-again c =
 
 -- src/rows.rt:41:1
 same-length-2 : tie.Need-same-length-2 Inv-loop μ-loop
-same-length-2 c = c .before .loop .inv .2
+same-length-2 c = search needs
 
 -- src/rows.rt:41:1
 returns-2 : tie.Need-returns-2 Inv-loop μ-loop

@@ -20,7 +20,7 @@ same-length c = search needs
 
 -- src/rows.rt:63:1
 returns-2 : tie.Need-returns-2
-returns-2 c = c .before .before .narrow .ensures .reduced
+returns-2 c = search needs
 
 pub narrow-unless-blind-spec : {M : Type 1} → statement M
 narrow-unless-blind-spec = tie.close (tie.spec returns narrow-requires same-length returns-2)

@@ -105,7 +105,7 @@ loop-again c =
     )
 
 same-length : tie.Need-same-length Inv-loop μ-loop
-same-length c = c .before .loop .inv .4
+same-length c = search needs
 
 returns : tie.Need-returns Inv-loop μ-loop
 returns c =

@@ -49,10 +49,7 @@ enum-told c = search needs
 
 -- src/search.rt:43:26
 same-length : tie.Need-same-length Inv-loop μ-loop
-same-length c =
-    let loop = c .before .before .before .before .before .before .before .before .before .before .loop in
-    let look = c .before .before .before .before .before .before .look in
-    look .kept .1 .0 ∙ loop .inv .0
+same-length c = search needs
 
 -- src/search.rt:43:26
 same-length-2 : tie.Need-same-length-2 Inv-loop μ-loop
@@ -62,22 +59,15 @@ same-length-2 c =
 
 -- src/search.rt:43:26
 same-length-3 : tie.Need-same-length-3 Inv-loop μ-loop
-same-length-3 c =
-    let loop = c .before .before .before .before .before .before .before .before .before .before .loop in
-    let look = c .before .before .before .before .before .before .look in
-    look .kept .1 .1 .1 .1 .0 ∙ loop .inv .1
+same-length-3 c = search needs
 
 -- src/search.rt:43:26
 same-length-4 : tie.Need-same-length-4 Inv-loop μ-loop
-same-length-4 c =
-    let loop = c .before .before .before .before .before .before .before .before .before .before .loop in
-    loop .inv .2
+same-length-4 c = search needs
 
 -- src/search.rt:43:26
 same-length-5 : tie.Need-same-length-5 Inv-loop μ-loop
-same-length-5 c =
-    let loop = c .before .before .before .before .before .before .before .before .before .before .loop in
-    loop .inv .3
+same-length-5 c = search needs
 
 -- src/search.rt:43:26
 returns : tie.Need-returns Inv-loop μ-loop
@@ -108,11 +98,7 @@ take-back-requires c κs =
 
 -- src/search.rt:47:21
 same-length-6 : tie.Need-same-length-6 Inv-loop μ-loop
-same-length-6 c =
-    let loop =
-    c .before .before .before .before .before .before .before .before .before .before .before .before .before .before .before .before .before .loop in
-    let look = c .before .before .before .before .before .before .before .before .before .before .before .before .before .look in
-    look .kept .1 .0 ∙ loop .inv .0
+same-length-6 c = search needs
 
 -- src/search.rt:47:21
 same-length-7 : tie.Need-same-length-7 Inv-loop μ-loop
@@ -123,25 +109,15 @@ same-length-7 c =
 
 -- src/search.rt:47:21
 same-length-8 : tie.Need-same-length-8 Inv-loop μ-loop
-same-length-8 c =
-    let loop =
-    c .before .before .before .before .before .before .before .before .before .before .before .before .before .before .before .before .before .loop in
-    let look = c .before .before .before .before .before .before .before .before .before .before .before .before .before .look in
-    look .kept .1 .1 .1 .1 .0 ∙ loop .inv .1
+same-length-8 c = search needs
 
 -- src/search.rt:47:21
 same-length-9 : tie.Need-same-length-9 Inv-loop μ-loop
-same-length-9 c =
-    let loop =
-    c .before .before .before .before .before .before .before .before .before .before .before .before .before .before .before .before .before .loop in
-    loop .inv .2
+same-length-9 c = search needs
 
 -- src/search.rt:47:21
 same-length-10 : tie.Need-same-length-10 Inv-loop μ-loop
-same-length-10 c =
-    let loop =
-    c .before .before .before .before .before .before .before .before .before .before .before .before .before .before .before .before .before .loop in
-    loop .inv .3
+same-length-10 c = search needs
 
 -- src/search.rt:47:21
 returns-2 : tie.Need-returns-2 Inv-loop μ-loop

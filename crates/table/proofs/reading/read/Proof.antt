@@ -26,20 +26,13 @@ loop-holds c =
     (omega arith, record { few-variables = omega arith; few-requests = omega arith }, (length (c .before .before .args .table .now), omega arith, refl))
 
 step-requires : tie.Need-step-requires Inv-loop μ-loop
-step-requires c κs = (c .loop-test .taken, c .before .loop .inv .1 .few-variables, c .before .loop .inv .1 .few-requests)
+step-requires c κs = search needs
 
 enum-known-told : tie.Need-enum-known-told Inv-loop μ-loop
 enum-known-told c = search needs
 
 add-at : tie.Need-add-at Inv-loop μ-loop
-add-at c =
-    let entry = c .before .before .before .before .before .before .before .before .args in
-    let loop = c .before .before .before .before .before .loop in
-    omega (
-      arith,
-      (next-passed (entry .table .now) (loop .at) (loop .state) (c .before .told .given .0 .0)
-          (sym (c .before .before .before .step .ensures) ∙ c .before .told .given .1)) .whole,
-    )
+add-at c = search needs
 
 number-requires : tie.Need-number-requires Inv-loop μ-loop
 number-requires c κs =
@@ -52,26 +45,10 @@ number-requires c κs =
     )
 
 add-at-2 : tie.Need-add-at-2 Inv-loop μ-loop
-add-at-2 c =
-    let entry = c .before .before .before .before .before .before .before .before .before .args in
-    let loop = c .before .before .before .before .before .before .loop in
-    let told = c .before .before .told in
-    omega (
-      arith,
-      (next-passed (entry .table .now) (loop .at) (loop .state) (told .given .0 .0)
-          (sym (c .before .before .before .before .step .ensures) ∙ told .given .1)) .whole,
-    )
+add-at-2 c = search needs
 
 loop-less : tie.Need-loop-less Inv-loop μ-loop
-loop-less c =
-    let entry = c .before .before .before .before .before .before .before .before .before .args in
-    let loop = c .before .before .before .before .before .before .loop in
-    let told = c .before .before .told in
-    omega (
-      arith,
-      (next-passed (entry .table .now) (loop .at) (loop .state) (told .given .0 .0)
-          (sym (c .before .before .before .before .step .ensures) ∙ told .given .1)) .whole,
-    )
+loop-less c = search needs
 
 loop-again : tie.Need-loop-again Inv-loop μ-loop
 loop-again c =

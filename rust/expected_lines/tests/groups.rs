@@ -1,7 +1,7 @@
 //! The groups hold what they are for: all limits, every refusal of a table, every status, and no
 //! name twice.
 
-use lines::{groups, Group, Named};
+use expected_lines::{groups, Group, Named};
 use second::program::output;
 use second::reading::read;
 use std::collections::{BTreeMap, BTreeSet};

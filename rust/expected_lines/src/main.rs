@@ -1,9 +1,9 @@
-//! Writes the made tables to a folder, `cargo run --release --offline -p lines FOLDER`: a folder for
+//! Writes the made tables to a folder, `cargo run --release --offline -p expected_lines FOLDER`: a folder for
 //! each group, in it NAME.table and beside it NAME.expected, the lines that the second program
 //! prints for it, as samples/ has them.
 #![forbid(unsafe_code)]
 
-use lines::{groups, Group};
+use expected_lines::{groups, Group};
 use second::program::output;
 use std::path::Path;
 use std::thread::{self, ScopedJoinHandle};
@@ -11,7 +11,7 @@ use std::{env, fs, io, process};
 
 fn main() -> io::Result<()> {
     let Some(folder) = env::args_os().nth(1) else {
-        eprintln!("usage: lines FOLDER");
+        eprintln!("usage: expected_lines FOLDER");
         process::exit(2);
     };
     write_all(Path::new(&folder), &groups())
