@@ -3,6 +3,7 @@
 //! does not fit in its bytes is never cut to something that fits, which could mean something else.
 
 use crate::kind::Kind;
+use crate::row::{Condition, Row};
 use crate::words::words;
 
 /// A table in the making.
@@ -54,6 +55,14 @@ impl TableBuilder {
         }
         push_record(&mut self.bytes, Kind::Linear, &body);
         self
+    }
+
+    /// A row more, be it a clause or a linear row.
+    pub fn row(self, row: &Row) -> TableBuilder {
+        match &row.condition {
+            Condition::Clause(literals) => self.clause(row.role, literals),
+            Condition::Linear { bound, terms } => self.linear(row.role, *bound, terms),
+        }
     }
 
     /// The requests in their order, most important first.

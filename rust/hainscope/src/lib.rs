@@ -6,13 +6,14 @@
 //!   [`refuses`] are the literals of its clauses.
 //! * Read it: [`Table::read`] accepts or refuses it.
 //! * Look into it: [`Table::variables`], [`Table::requests`] and [`Table::order`] are its sizes and
-//!   its order, [`Table::records`] goes through its records, each a [`Record`] of a [`Kind`], and
-//!   [`Table::body`] asks the library for the body of one.
+//!   its order, [`Table::rows`] its rows; [`Table::records`] goes through its records, each a
+//!   [`Record`] of a [`Kind`], and [`Table::body`] asks the library for the body of one.
 //! * Ask it: [`Table::can_stand`] says whether a [`Selection`] of requests can stand.
 //! * Explain it: [`Table::report`] finds the preferred conflict or relaxation; shown, a [`Report`] is
 //!   one line of words. [`Table::report_by`] takes the [`Method`] as well, and
 //!   [`Table::write_report`] writes the report as a record into a lent buffer.
 //! * Say what was wrong: a [`Refusal`] has a [`Reason`]; shown or debugged, it is one line of words.
+//!   [`MOST_REQUESTS`] and the other limits say it beforehand.
 //!
 //! [`calls`] has the C functions as they are, with their numbers.
 //!
@@ -74,22 +75,29 @@
 mod builder;
 pub mod calls;
 mod kind;
+mod limits;
 mod literal;
 mod question;
 mod reason;
 mod records;
 mod refusal;
 mod report;
+mod row;
 mod selection;
 mod table;
 mod words;
 
 pub use builder::TableBuilder;
 pub use kind::Kind;
-pub use literal::{refuses, wants};
+pub use limits::{
+    MOST_LITERALS, MOST_REQUESTS, MOST_ROWS, MOST_TABLE_BYTES, MOST_TERMS, MOST_VARIABLES,
+    MOST_WEIGHT,
+};
+pub use literal::{refuses, variable_of, wants};
 pub use reason::Reason;
 pub use records::{Record, Records};
 pub use refusal::Refusal;
 pub use report::{Method, Report, Sought, Status, MOST_REPORT_BYTES};
+pub use row::{Condition, Row};
 pub use selection::Selection;
-pub use table::{Table, MOST_REQUESTS};
+pub use table::Table;

@@ -28,3 +28,15 @@ pub fn wants(variable: u16) -> u16 {
 pub fn refuses(variable: u16) -> u16 {
     variable.saturating_mul(2).saturating_add(1)
 }
+
+/// The variable that a literal speaks of, and whether it is true where that variable is 1.
+///
+/// ```
+/// use hainscope::{refuses, variable_of, wants};
+///
+/// assert_eq!(variable_of(wants(3)), (3, true));
+/// assert_eq!(variable_of(refuses(3)), (3, false));
+/// ```
+pub fn variable_of(literal: u16) -> (u16, bool) {
+    (literal / 2, literal % 2 == 0)
+}

@@ -2,6 +2,8 @@
 //! The numbers are fixed; a server may pass them on.
 
 use crate::reason::Reason;
+use crate::records::HEADING;
+use crate::words::word;
 use std::error::Error;
 use std::fmt;
 
@@ -33,6 +35,30 @@ impl Refusal {
     /// The reason that the number stands for.
     pub fn reason(&self) -> Reason {
         Reason::of(self.number)
+    }
+
+    /// The number of the record at the place, the first being 0, in the table that was refused. Where
+    /// the place is the table's end, it is the number that a further record would have.
+    ///
+    /// ```
+    /// use hainscope::{Table, TableBuilder};
+    ///
+    /// let mut bytes = TableBuilder::new(3, 2).table(); // HEAD, ORDER and CHECK
+    /// bytes[2] = 9;
+    /// assert_eq!(Table::read(&bytes).unwrap_err().record(&bytes), 0);
+    /// bytes[2] = 1;
+    /// bytes[20] ^= 1;
+    /// assert_eq!(Table::read(&bytes).unwrap_err().record(&bytes), 2);
+    /// bytes.truncate(16);
+    /// assert_eq!(Table::read(&bytes).unwrap_err().record(&bytes), 2);
+    /// ```
+    pub fn record(&self, table: &[u8]) -> usize {
+        let (mut number, mut place) = (0, 0);
+        while place < self.place && place + HEADING <= table.len() {
+            place += HEADING + usize::from(word(table, place));
+            number += 1;
+        }
+        number
     }
 
     /// Nothing where the number is 0, else the refusal.

@@ -4,9 +4,10 @@
 mod line;
 
 use crate::calls;
+use crate::limits::MOST_REQUESTS;
 use crate::records::HEADING;
 use crate::refusal::Refusal;
-use crate::table::{Table, MOST_REQUESTS};
+use crate::table::Table;
 use crate::words::words;
 
 /// Room for the report on any table: 12 + 2N bytes with the greatest N.

@@ -1,6 +1,7 @@
 //! Selections: some of the requests that a table may have.
 
-use crate::table::{Table, MOST_REQUESTS};
+use crate::limits::MOST_REQUESTS;
+use crate::table::Table;
 use std::fmt;
 
 /// Some requests of a table.

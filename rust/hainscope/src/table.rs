@@ -5,9 +5,6 @@ use crate::calls;
 use crate::refusal::Refusal;
 use std::fmt;
 
-/// The most requests that a table may have.
-pub const MOST_REQUESTS: u16 = 64;
-
 /// A table that the proved library has accepted. It borrows the caller's bytes, and may be copied and
 /// shared among threads. Debugged it tells its sizes, and not its up to 32,768 bytes.
 ///

@@ -1,0 +1,2 @@
+//! The program `hainscope-review`.
+fn main() {}

@@ -1,0 +1,67 @@
+//! Names: how one stands in a text, bare or in quotes, and how several are told in a sentence.
+
+/// The most characters of a name.
+pub const MOST_NAME: usize = 80;
+
+/// The words of the language: each is a name only in quotes.
+pub const RESERVED: [&str; 22] = [
+    "event",
+    "variable",
+    "variables",
+    "plug-in",
+    "plug-ins",
+    "host",
+    "allows",
+    "requires",
+    "requests",
+    "at",
+    "most",
+    "of",
+    "takes",
+    "on",
+    "off",
+    "or",
+    "the",
+    "impossible",
+    "nothing",
+    "important",
+    "first",
+    "then",
+];
+
+/// The characters that end a bare word, beside white space.
+pub const MARKS: [char; 4] = [',', ':', '"', '#'];
+
+/// A name as it stands in a text: bare where that is read back as the same name, else in quotes.
+pub fn written(name: &str) -> String {
+    let ends_a_word = |letter: char| letter.is_whitespace() || MARKS.contains(&letter);
+    let bare = !name.is_empty() && !name.contains(ends_a_word) && !RESERVED.contains(&name);
+    if bare {
+        name.to_string()
+    } else {
+        format!("\"{}\"", name.replace('\\', "\\\\").replace('"', "\\\""))
+    }
+}
+
+/// Several things in a sentence: "a", "a and b", "a, b and c".
+pub fn listed(names: &[String]) -> String {
+    match names.split_last() {
+        None => String::new(),
+        Some((only, [])) => only.clone(),
+        Some((last, others)) => format!("{} and {last}", others.join(", ")),
+    }
+}
+
+/// Whether a name may have a character: one that is seen, and that does not turn what stands around it.
+pub fn may_stand_in_a_name(letter: char) -> bool {
+    !letter.is_control() && !is_invisible(letter)
+}
+
+/// Marks of direction, joiners and separators that nobody sees.
+fn is_invisible(letter: char) -> bool {
+    matches!(
+        letter,
+        '\u{ad}' | '\u{61c}' | '\u{180e}' | '\u{200b}'..='\u{200f}' | '\u{2028}'..='\u{202e}'
+            | '\u{2060}'..='\u{206f}' | '\u{feff}' | '\u{fff9}'..='\u{fffb}' | '\u{e0000}'..='\u{e007f}'
+    )
+}
