@@ -9,7 +9,12 @@
 #![forbid(unsafe_code)]
 
 pub mod answer;
+pub mod command;
 pub mod event;
+pub mod input;
+pub mod json;
 pub mod names;
 pub mod page;
 pub mod progress;
+pub mod text;
+pub mod words;

@@ -52,16 +52,28 @@ pub fn listed(names: &[String]) -> String {
     }
 }
 
+/// A number that tells a place in a row of things: 1st, 2nd, 3rd, 4th, 11th, 65th.
+pub fn ordinal(number: usize) -> String {
+    let ending = match (number % 100, number % 10) {
+        (11..=13, _) => "th",
+        (_, 1) => "st",
+        (_, 2) => "nd",
+        (_, 3) => "rd",
+        _ => "th",
+    };
+    format!("{number}{ending}")
+}
+
 /// Whether a name may have a character: one that is seen, and that does not turn what stands around it.
 pub fn may_stand_in_a_name(letter: char) -> bool {
     !letter.is_control() && !is_invisible(letter)
 }
 
-/// Marks of direction, joiners and separators that nobody sees.
+/// Marks of direction and separators that nobody sees. Joiners stay: some scripts need them.
 fn is_invisible(letter: char) -> bool {
     matches!(
         letter,
-        '\u{ad}' | '\u{61c}' | '\u{180e}' | '\u{200b}'..='\u{200f}' | '\u{2028}'..='\u{202e}'
+        '\u{ad}' | '\u{61c}' | '\u{180e}' | '\u{200b}' | '\u{200e}' | '\u{200f}' | '\u{2028}'..='\u{202e}'
             | '\u{2060}'..='\u{206f}' | '\u{feff}' | '\u{fff9}'..='\u{fffb}' | '\u{e0000}'..='\u{e007f}'
     )
 }

@@ -1,0 +1,58 @@
+//! An event as a text: one statement a line, in whole words. docs/EVENT.md defines it.
+//! A text is read into words, statements and an event, in this sequence; each step tells its own
+//! mistakes, and the next one is taken only where there are none.
+
+mod cursor;
+mod declared;
+mod gathering;
+mod mistake;
+mod nearest;
+mod ordering;
+mod places;
+mod rows;
+mod statement;
+mod tokens;
+mod writing;
+
+use crate::event::Event;
+use std::str;
+
+pub use mistake::{Mistake, Mistakes, MOST_MISTAKES};
+pub use writing::{condition_words, write};
+
+/// Reads a text.
+///
+/// # Errors
+///
+/// What is wrong in it, each with its line and column, in the sequence of the text.
+pub fn read(bytes: &[u8]) -> Result<Event, Mistakes> {
+    let bytes = bytes.strip_prefix("\u{feff}".as_bytes()).unwrap_or(bytes);
+    let text = str::from_utf8(bytes).map_err(|error| not_unicode(bytes, error.valid_up_to()))?;
+    let mut mistakes = Mistakes::default();
+    let mut statements = Vec::new();
+    for (line, words) in (1..).zip(text.split('\n')) {
+        if mistakes.are_enough() {
+            break;
+        }
+        let words = words.strip_suffix('\r').unwrap_or(words);
+        let statement = tokens::tokens(line, words).and_then(|line| statement::statement(&line));
+        match statement {
+            Ok(statement) => statements.extend(statement),
+            Err(mistake) => mistakes.add(mistake),
+        }
+    }
+    mistakes.unless_none()?;
+    gathering::event(&statements)
+}
+
+/// The mistake that a byte is no part of a text.
+fn not_unicode(bytes: &[u8], good: usize) -> Mistakes {
+    let before = String::from_utf8_lossy(&bytes[..good]);
+    let line = 1 + before.matches('\n').count();
+    let column = 1 + before.chars().rev().take_while(|c| *c != '\n').count();
+    let place = places::Place { line, column };
+    Mistakes::from(place.mistake(format!(
+        "expected a text in UTF-8, found the byte {:#04X}",
+        bytes[good]
+    )))
+}

@@ -1,0 +1,37 @@
+//! Places in a text, and what stands at one: names and numbers as they were written.
+
+use super::mistake::Mistake;
+
+/// A place in a text. Lines and columns are counted from 1, columns in characters.
+#[derive(Clone, Copy, Debug, PartialEq, Eq)]
+pub(super) struct Place {
+    pub line: usize,
+    pub column: usize,
+}
+
+impl Place {
+    /// A mistake at this place.
+    pub fn mistake(self, words: String) -> Mistake {
+        Mistake {
+            line: self.line,
+            column: self.column,
+            words,
+        }
+    }
+}
+
+/// A name where it stands.
+#[derive(Clone, Debug)]
+pub(super) struct Name {
+    pub name: String,
+    pub place: Place,
+}
+
+/// A whole number where it stands. One that is beyond 64 bits is as far from 0 as these go: it is
+/// beyond every limit anyway.
+#[derive(Clone, Debug)]
+pub(super) struct Number {
+    pub value: i64,
+    pub written: String,
+    pub place: Place,
+}

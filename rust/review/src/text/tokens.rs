@@ -1,0 +1,108 @@
+//! The words of a line: bare words, names in quotes, commas and colons. White space parts them, and
+//! a `#` outside of quotes begins a comment.
+
+use super::mistake::Mistake;
+use super::places::Place;
+use crate::names::{may_stand_in_a_name, MARKS, MOST_NAME};
+
+/// What stands at a place of a line.
+#[derive(Clone, Debug, PartialEq, Eq)]
+pub(super) enum Token {
+    /// A word without quotes: a word of the language, a name or a number.
+    Bare(String),
+    /// A name in quotes.
+    Quoted(String),
+    Comma,
+    Colon,
+}
+
+/// The words of a line, each with its place, and the place after the last.
+#[derive(Clone, Debug)]
+pub(super) struct Line {
+    pub tokens: Vec<(Token, Place)>,
+    pub end: Place,
+}
+
+/// The words of a line.
+pub(super) fn tokens(line: usize, text: &str) -> Result<Line, Mistake> {
+    let letters: Vec<char> = text.chars().collect();
+    let place = |index| Place {
+        line,
+        column: index + 1,
+    };
+    let hidden = |letter: &char| *letter != '\t' && !may_stand_in_a_name(*letter);
+    if let Some(index) = letters.iter().position(hidden) {
+        let code = u32::from(letters[index]);
+        let words = format!("the character U+{code:04X} cannot stand in a text");
+        return Err(place(index).mistake(words));
+    }
+    let (mut tokens, mut end, mut index) = (Vec::new(), 0, 0);
+    while index < letters.len() && letters[index] != '#' {
+        if letters[index].is_whitespace() {
+            index += 1;
+            continue;
+        }
+        let (token, length) = token(&letters[index..], place(index))?;
+        tokens.push((token, place(index)));
+        index += length;
+        end = index;
+    }
+    let end = place(end);
+    Ok(Line { tokens, end })
+}
+
+/// The first word of some letters, of which the first is no white space, and how many it takes.
+fn token(letters: &[char], place: Place) -> Result<(Token, usize), Mistake> {
+    match letters[0] {
+        ',' => Ok((Token::Comma, 1)),
+        ':' => Ok((Token::Colon, 1)),
+        '"' => quoted(letters, place),
+        _ => {
+            let ends = |letter: &char| letter.is_whitespace() || MARKS.contains(letter);
+            let length = letters.iter().position(ends).unwrap_or(letters.len());
+            let word: String = letters[..length].iter().collect();
+            Ok((Token::Bare(short_enough(word, length, place)?), length))
+        }
+    }
+}
+
+/// A name in quotes, the first letter being the quote. A backslash takes the next letter as it is.
+fn quoted(letters: &[char], place: Place) -> Result<(Token, usize), Mistake> {
+    let mut name = String::new();
+    let mut index = 1;
+    while let Some(letter) = letters.get(index) {
+        let taken = match letter {
+            '"' => {
+                let length = name.chars().count();
+                let name = short_enough(name, length, place)?;
+                return match name.trim() == name && !name.is_empty() {
+                    true => Ok((Token::Quoted(name), index + 1)),
+                    false => Err(place.mistake(no_name())),
+                };
+            }
+            '\\' => {
+                index += 1;
+                letters.get(index)
+            }
+            '\t' => return Err(place.mistake("a tab cannot stand in a name".to_string())),
+            _ => Some(letter),
+        };
+        name.extend(taken);
+        index += 1;
+    }
+    Err(place.mistake("expected a quote that ends the name, found the end of the line".to_string()))
+}
+
+fn no_name() -> String {
+    "expected a name in the quotes, which neither is empty nor begins or ends with a space"
+        .to_string()
+}
+
+/// A word that is no longer than a name may be.
+fn short_enough(word: String, length: usize, place: Place) -> Result<String, Mistake> {
+    if length > MOST_NAME {
+        let words = format!("a name of {length} characters, at most {MOST_NAME}");
+        return Err(place.mistake(words));
+    }
+    Ok(word)
+}
