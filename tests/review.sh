@@ -34,6 +34,17 @@ same() {
     holds "$name" cmp "$room/printed" "$file"
 }
 
+# questions TABLE: the counts that the proved program prints, in the tool's words
+questions() {
+    local name status count others
+    while read -r name status count others; do
+        case $name in
+        conflict) printf 'Questions asked: %s for the conflict, ' "$count" ;;
+        relax) printf '%s for the best set.\n' "$count" ;;
+        esac
+    done < <(./hainscope "$1")
+}
+
 expect 'an event as a file' 0 "$words" '' ./hainscope-review explain "$accident"
 expect 'an event as standard input' 0 "$words" '' from_input "$accident" ./hainscope-review explain -
 for event in samples/events/*.event; do
@@ -43,8 +54,7 @@ for event in samples/events/*.event; do
     same "$name as a page" "$name.html" ./hainscope-review page "$event"
     same "$name as a page for publishers" "$name.publisher.html" ./hainscope-review page --for-publisher "$event"
     ./hainscope-review table "$event" >"$room/event.table"
-    ./hainscope "$room/event.table" >"$room/lines"
-    holds "$name as a table has as many questions" grep -q "for the conflict, $(sed -n 's/^relax [0-9]* \([0-9]*\) .*/\1/p' "$room/lines") for the best set" "$name.words"
+    holds "$name by the proved program has the same counts" grep -qxF "$(questions "$room/event.table")" "$name.words"
     ./hainscope-review text "$room/event.table" >"$room/event.event"
     same "$name is the same table after text" "$room/event.table" ./hainscope-review table "$room/event.event"
 done
@@ -88,7 +98,8 @@ cd "$root" || exit 2
 # A copy of the tree in which a proof is broken: no library, no answer
 copy=$room/copy
 mkdir -p "$copy/target"
-cp -R hainscope-review crates crates.txt rust "$copy" && rm -rf "$copy/rust/target" && cp -R target/{log,obj,rlib,stamp,staticlib} "$copy/target" || exit 2
+cp -R hainscope-review crates crates.txt "$copy" && cp -R target/{log,rlib,stamp,staticlib} "$copy/target" || exit 2
+cp -R rust "$copy" && rm -rf "$copy/rust/target"
 sed -i 's/^    12 + 2 \* requests/    11 + 2 * requests/' "$copy/crates/hainscope/src/reporting.rt"
 holds 'an edit is made in a copy' test "$(diff -r crates "$copy/crates" | grep -c '^<')" = 1
 expect 'an edit that breaks a proof stops it' 3 '' 'the library could not be proved' "$copy/hainscope-review" explain "$accident"

@@ -42,10 +42,7 @@ impl Source {
             Source::StandardInput => io::stdin().take(MOST_BYTES + 1).read_to_end(&mut bytes)?,
         };
         match bytes.len() as u64 > MOST_BYTES {
-            true => Err(io::Error::new(
-                io::ErrorKind::Other,
-                "more than 16 MiB, which no event has",
-            )),
+            true => Err(io::Error::other("more than 16 MiB, which no event has")),
             false => Ok(bytes),
         }
     }
