@@ -132,7 +132,7 @@ pub fn one_fails() -> Event {
 
 /// Two plug-ins at odds over a switch, without any budget, and rows of every sort.
 pub fn no_budget() -> Event {
-    let event = event("No budgets", &["gps", "wifi"], &["Map", "Chat", "Clock"]);
+    let event = event("At odds", &["gps", "wifi"], &["Map", "Chat", "Clock"]);
     let event = clause(event, 0, &[wants(0), refuses(1)]);
     let event = clause(event, 1, &[wants(1)]);
     let event = clause(event, 2, &[refuses(0), refuses(0)]);
