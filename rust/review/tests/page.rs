@@ -68,6 +68,27 @@ fn what_is_beyond_begins_at_the_limit() {
 }
 
 #[test]
+fn no_key_stands_on_the_limit() {
+    let page = read(&shapes::bib_map());
+    let place = |element: &Element, name: &str| -> f64 {
+        let place = element.attribute(name).trim_end_matches('%');
+        place.parse().expect("a part of the width")
+    };
+    let limit = page
+        .iter()
+        .find(|element| element.tag == "line" && element.attribute("class") == "limit");
+    let limit = place(limit.expect("a limit"), "x1");
+    let keys: Vec<&Element> = page
+        .iter()
+        .filter(|element| element.attribute("class") == "key")
+        .collect();
+    assert_eq!(keys.len(), 7);
+    for key in keys {
+        assert!((place(key, "x") - limit).abs() > 2.5, "{}", key.text);
+    }
+}
+
+#[test]
 fn every_plug_in_stands_in_the_table_by_importance() {
     let page = read(&shapes::bib_map());
     let rows = texts(&page, "tr");
