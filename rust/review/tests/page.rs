@@ -219,6 +219,10 @@ fn budgets_without_names_are_numbered() {
     let page = read(&event);
     assert_eq!(texts(&page, "h3"), ["Budget 1", "chairs", "Budget 3"]);
     assert_eq!(texts(&page, "h1"), ["An event"]);
+    says(
+        &page,
+        "limit 5 Not counted, since nobody requests it outright: gps on takes 3. chairs",
+    );
 }
 
 #[test]

@@ -109,8 +109,10 @@ impl Shown<'_> {
 
     /// Who requests what, and how much that takes.
     fn table(&self, name: &str, identifier: &str, claims: &Claims) -> Html {
-        if claims.claims.is_empty() {
-            return paragraph(Html::text(words::NOBODY));
+        match (claims.claims.is_empty(), claims.unclaimed.is_empty()) {
+            (true, true) => return paragraph(Html::text(words::NOBODY)),
+            (true, false) => return Html::nothing(), // what is not counted says it
+            (false, _) => {}
         }
         let rows = claims.claims.iter().map(|claim| self.claim(claim));
         let caption = Html::text("Who requests how much of ").and(Html::name(name));

@@ -72,22 +72,12 @@ impl Element {
 
 /// The elements of a page in the sequence of their ends, or what is wrong with it.
 pub fn elements(page: &str) -> Result<Vec<Element>, String> {
-    let mut rest = page
-        .strip_prefix("<!DOCTYPE html>\n")
-        .ok_or("no document type")?;
+    let start = "<!DOCTYPE html>\n";
+    let mut rest = page.strip_prefix(start).ok_or("no document type")?;
     let (mut open, mut closed): (Vec<Element>, Vec<Element>) = (Vec::new(), Vec::new());
     while !rest.is_empty() {
         let styled = open.last().is_some_and(|element| element.tag == "style");
-        let end = match styled {
-            true => rest.find("</style"),
-            false => rest.find('<'),
-        };
-        let (text, tag) = rest.split_at(end.unwrap_or(rest.len()));
-        let text = if styled {
-            String::new()
-        } else {
-            unescaped(text)?
-        };
+        let (text, tag) = text_and_tag(rest, styled)?;
         open.iter_mut().for_each(|element| element.text += &text);
         if tag.is_empty() {
             break;
@@ -95,15 +85,8 @@ pub fn elements(page: &str) -> Result<Vec<Element>, String> {
         let (inner, after) = tag[1..].split_once('>').ok_or("a tag without its end")?;
         rest = after;
         match inner.strip_prefix('/') {
-            None => {
-                let element = opened(inner)?;
-                let is_void = element.tag == "meta";
-                if is_void {
-                    closed.push(element)
-                } else {
-                    open.push(element)
-                }
-            }
+            None if inner.starts_with("meta ") => closed.push(opened(inner)?),
+            None => open.push(opened(inner)?),
             Some(tag) => match open.pop() {
                 Some(element) if element.tag == tag => closed.push(element),
                 other => return Err(format!("</{tag}> closes {other:?}")),
@@ -114,6 +97,18 @@ pub fn elements(page: &str) -> Result<Vec<Element>, String> {
         true => identified(closed),
         false => Err(format!("not closed: {open:?}")),
     }
+}
+
+/// The text before the next tag, and what is left from that tag on. A style sheet is no text.
+fn text_and_tag(rest: &str, styled: bool) -> Result<(String, &str), String> {
+    let end = if styled { "</style" } else { "<" };
+    let (text, tag) = rest.split_at(rest.find(end).unwrap_or(rest.len()));
+    let text = if styled {
+        String::new()
+    } else {
+        unescaped(text)?
+    };
+    Ok((text, tag))
 }
 
 /// The elements, if each identifier stands once and each one that is cited stands.
