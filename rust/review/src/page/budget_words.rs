@@ -1,0 +1,70 @@
+//! What is said of a budget's claims in words.
+
+use crate::event::{Budget, Event};
+use crate::page::claims::{takings, Claims, Taking};
+use crate::page::document::paragraph;
+use crate::page::html::Html;
+use crate::page::row_words::{on_or_off, variable_name};
+
+/// Where there are no claims.
+pub const NOBODY: &str = "Nobody requests any of it outright.";
+
+/// How much is claimed of how much: "2900 claimed of 4000: 1100 left".
+pub fn sum(claims: &Claims) -> String {
+    let (total, room) = (claims.total(), claims.room);
+    let rest = match room - total {
+        0 => "nothing left".to_string(),
+        left if left > 0 => format!("{left} left"),
+        beyond => format!("{} too many", beyond.abs()),
+    };
+    format!("{total} claimed of {room}: {rest}")
+}
+
+/// What takes something and is requested by nobody outright.
+pub fn unclaimed(event: &Event, claims: &Claims) -> Html {
+    let them = match claims.unclaimed.len() {
+        0 => return Html::nothing(),
+        1 => "it",
+        _ => "them",
+    };
+    let part = |taking: &Taking| {
+        let state = on_or_off(taking.setting.on);
+        let takes = format!(" {state} takes {}", taking.amount);
+        Html::name(&variable_name(event, taking.setting.variable)).say(&takes)
+    };
+    let parts = Html::listed(claims.unclaimed.iter().map(part).collect());
+    let words = format!("Not counted, since nobody requests {them} outright: ");
+    paragraph(Html::text(&words).and(parts).say("."))
+}
+
+/// What gives something to the budget, and how that is counted.
+pub fn given(event: &Event, budget: &Budget, claims: &Claims) -> Html {
+    let takings = takings(budget.terms);
+    let gives = takings.iter().filter(|taking| !taking.setting.on);
+    let part = |taking: &Taking| {
+        let name = Html::name(&variable_name(event, taking.setting.variable));
+        name.say(&format!(" gives {}", taking.amount))
+    };
+    let parts: Vec<Html> = gives.map(part).collect();
+    let where_on = match parts.len() {
+        0 => return Html::nothing(),
+        1 => " where it is on",
+        _ => ", each where it is on",
+    };
+    let counted = ", which is counted as room for it and as taken where it is off.";
+    let limit = format!(
+        " So the host’s limit of {} stands at {}.",
+        budget.bound, claims.room
+    );
+    let sentence = Html::listed(parts).say(where_on).say(counted).say(&limit);
+    paragraph(sentence)
+}
+
+/// Words with a capital at their start.
+pub fn capitalised(words: &str) -> String {
+    let mut letters = words.chars();
+    match letters.next() {
+        Some(first) => first.to_uppercase().chain(letters).collect(),
+        None => String::new(),
+    }
+}
