@@ -4,12 +4,13 @@
 # shapes of rust/review/tests/shapes; PAGES_FOLDER names a folder with NAME.html and NAME.publisher.html instead. Each page
 # is seen as it is, in a frame, and tests/pages.js looks into it from outside. CHROMIUM names another browser.
 # pages.sh --picture FILE: makes a picture of the accident's page.
+# pages.sh --browser: tells by its exit status whether there is a browser.
 set -u
 unset CDPATH
 case $#:${1:-} in
-0: | 2:--picture) ;;
+0: | 2:--picture | 1:--browser) ;;
 *)
-    echo 'usage: tests/pages.sh [--picture FILE]' >&2
+    echo 'usage: tests/pages.sh [--picture FILE | --browser]' >&2
     exit 2
     ;;
 esac
@@ -37,6 +38,7 @@ find_browser() {
 }
 
 if ! browser=$(find_browser); then
+    [ "${1:-}" != --browser ] || exit 1
     if [ -n "${CHROMIUM:-}" ]; then
         echo "CHROMIUM names no program: $CHROMIUM" >&2
         exit 2
@@ -44,6 +46,7 @@ if ! browser=$(find_browser); then
     echo 'no browser is installed: the pages are not looked at in one'
     exit 0
 fi
+[ "${1:-}" != --browser ] || exit 0
 
 # browse FLAG... FILE: the browser on a file, with nobody before it; what it says of itself is not shown
 browse() {
@@ -54,7 +57,7 @@ browse() {
 # write_sample NAME: both pages of a sample
 write_sample() {
     ./hainscope-review page "samples/events/$1.event" >"$folder/$1.html" &&
-        ./hainscope-review page --publisher "samples/events/$1.event" >"$folder/$1.publisher.html"
+        ./hainscope-review page --for-publisher "samples/events/$1.event" >"$folder/$1.publisher.html"
 }
 
 # writes the pages, where no folder has them already

@@ -3,6 +3,9 @@
 
 use hainscope::{Condition, Refusal, Row, Table, TableBuilder};
 
+/// What stands for the name of something that an event has not.
+pub const UNNAMED: &str = "?";
+
 /// What the host allows, what each plug-in requests, and which requests matter most.
 #[derive(Clone, Debug, Default, PartialEq, Eq)]
 pub struct Event {
@@ -51,14 +54,17 @@ impl Event {
         builder.order(&self.order).table()
     }
 
-    /// The name of a variable.
+    /// The name of a variable; a number that the event has not is [`UNNAMED`].
     pub fn variable(&self, number: u16) -> &str {
-        &self.variables[usize::from(number)]
+        let name = self.variables.get(usize::from(number));
+        name.map_or(UNNAMED, String::as_str)
     }
 
-    /// The name of the plug-in of a request.
+    /// The name of the plug-in of a request; a number that the event has not is [`UNNAMED`].
     pub fn plug_in(&self, request: u16) -> &str {
-        &self.plug_ins[usize::from(request) - 1]
+        let place = usize::from(request).checked_sub(1);
+        let name = place.and_then(|place| self.plug_ins.get(place));
+        name.map_or(UNNAMED, String::as_str)
     }
 
     /// The budgets of the host: each linear row of role 0.

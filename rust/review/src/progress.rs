@@ -3,6 +3,7 @@
 
 use std::io::{self, IsTerminal, Write};
 use std::panic::resume_unwind;
+use std::sync::mpsc::{self, RecvTimeoutError};
 use std::sync::Mutex;
 use std::thread;
 use std::time::{Duration, Instant};
@@ -48,16 +49,14 @@ impl Progress {
         };
         let begun = Instant::now();
         thread::scope(|scope| {
-            let watcher = thread::current();
+            let (ends, ended) = mpsc::channel();
             let worker = scope.spawn(move || {
-                let done = work();
-                watcher.unpark();
-                done
+                let _ends = ends; // with the work, also where it panics
+                work()
             });
             let mut shown = false;
-            while !worker.is_finished() {
-                thread::park_timeout(self.step);
-                if begun.elapsed() >= 2 * self.step && !worker.is_finished() {
+            while ended.recv_timeout(self.step) == Err::<(), _>(RecvTimeoutError::Timeout) {
+                if begun.elapsed() >= 2 * self.step {
                     show(out, &format!("\r{words}, {} s", begun.elapsed().as_secs()));
                     shown = true;
                 }

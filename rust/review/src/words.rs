@@ -4,6 +4,7 @@ use crate::answer::Answer;
 use crate::event::Event;
 use crate::input::NoEvent;
 use crate::names::{listed, written};
+use crate::sentences::{all_can_stand, needed, HOST_CANNOT_STAND};
 use hainscope::{Reason, Refusal, Status};
 
 /// The answer, a few lines.
@@ -21,7 +22,7 @@ pub fn explain(event: &Event, answer: &Answer) -> String {
     }
     lines.extend(match answer.status() {
         Status::AllCanStand => vec![all_can_stand(event.plug_ins.len())],
-        Status::HostCannotStand => vec![host_cannot_stand()],
+        Status::HostCannotStand => vec![HOST_CANNOT_STAND.to_string()],
         Status::Conflict => conflict(event, answer),
     });
     lines.push(format!(
@@ -52,7 +53,7 @@ fn named(event: &Event, requests: &[u16]) -> String {
 fn conflict(event: &Event, answer: &Answer) -> Vec<String> {
     let conflict = &answer.conflict.requests;
     let cannot = match conflict.len() {
-        1 => "Cannot stand",
+        1 => "Cannot stand beside the host's rows",
         _ => "Cannot stand together",
     };
     vec![
@@ -67,32 +68,6 @@ fn conflict(event: &Event, answer: &Answer) -> Vec<String> {
         ),
         format!("It leaves out {}.", named(event, &answer.left_out)),
     ]
-}
-
-/// So many plug-ins can all stand.
-pub fn all_can_stand(plug_ins: usize) -> String {
-    match plug_ins {
-        0 => "There are no plug-ins, and the host's rows can stand.".to_string(),
-        1 => "The only plug-in can stand.".to_string(),
-        _ => format!("All {plug_ins} plug-ins can stand together."),
-    }
-}
-
-/// No set of plug-ins can stand.
-pub fn host_cannot_stand() -> String {
-    "The host's own rows cannot stand, so that no set of plug-ins can.".to_string()
-}
-
-/// That each of so many plug-ins is needed for the failure: a preferred conflict is minimal, which is
-/// proved (`preferred-conflict-is-minimal`).
-pub fn needed(plug_ins: usize) -> &'static str {
-    match plug_ins {
-        1 => "It cannot stand beside the host's rows, even by itself.",
-        2 => "Each of them is needed for the failure: either can stand without the other.",
-        _ => {
-            "Each of them is needed for the failure: without any one of them, the others can stand."
-        }
-    }
 }
 
 /// Why there is no event, a line for each thing that is wrong.

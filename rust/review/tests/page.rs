@@ -118,15 +118,15 @@ fn every_status_has_its_verdict() {
     );
     assert_eq!(
         verdict(shapes::host_fails()),
-        "The host’s own rows cannot stand, so no set of plug-ins can."
+        "The host's own rows cannot stand, so no set of plug-ins can."
     );
     assert_eq!(
         verdict(shapes::no_plug_ins()),
-        "There are no plug-ins, and the host’s rows can stand."
+        "There are no plug-ins, and the host's rows can stand."
     );
     assert_eq!(
         verdict(shapes::one_fails()),
-        "The plug-in Map cannot stand beside the host’s rows."
+        "The plug-in Map cannot stand beside the host's rows."
     );
     assert_eq!(
         verdict(shapes::event("One", &[], &["Map"])),
@@ -186,7 +186,7 @@ fn what_gives_and_what_nobody_requests_is_explained() {
     says(
         &page,
         "battery pack gives 300 and solar gives 120, each where it is on, which is counted as room for it and as taken \
-         where it is off. So the host’s limit of 500 stands at 920.",
+         where it is off. So the host's limit of 500 stands at 920.",
     );
     let page = read(&shapes::less_than_nothing());
     says(&page, "400 claimed of -800: 1200 too many");

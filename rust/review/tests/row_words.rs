@@ -4,7 +4,7 @@ mod shapes;
 
 use hainscope::{refuses, wants};
 use review::event::Event;
-use review::page::row_words::{row_pieces, row_words, Piece};
+use review::row_words::{row_pieces, row_words, Piece};
 
 /// The words of the last row of an event.
 fn last(event: &Event) -> String {

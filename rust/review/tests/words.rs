@@ -44,7 +44,7 @@ fn the_host_cannot_stand() {
         [
             "Event: Night.",
             "In order of importance: a and b.",
-            "The host's own rows cannot stand, so that no set of plug-ins can.",
+            "The host's own rows cannot stand, so no set of plug-ins can.",
             "Questions asked: 2 for the conflict, 2 for the best set.",
         ]
     );
@@ -56,8 +56,8 @@ fn one_cannot_stand_by_itself() {
         told("plug-ins a, b\nb requests the impossible\nmost important first: b, a"),
         [
             "In order of importance: b and a.",
-            "Cannot stand (the preferred conflict): plug-in b.",
-            "It cannot stand beside the host's rows, even by itself.",
+            "Cannot stand beside the host's rows (the preferred conflict): plug-in b.",
+            "It is needed for the failure: without it, the host's rows can stand.",
             "The best set (the preferred relaxation): plug-in a.",
             "It leaves out plug-in b.",
             "Questions asked: 3 for the conflict, 4 for the best set.",

@@ -4,7 +4,7 @@ use crate::event::{Budget, Event};
 use crate::page::claims::{takings, Claims, Taking};
 use crate::page::document::paragraph;
 use crate::page::html::Html;
-use crate::page::row_words::{on_or_off, variable_name};
+use crate::row_words::on_or_off;
 
 /// Where there are no claims.
 pub const NOBODY: &str = "Nobody requests any of it outright.";
@@ -30,7 +30,7 @@ pub fn unclaimed(event: &Event, claims: &Claims) -> Html {
     let part = |taking: &Taking| {
         let state = on_or_off(taking.setting.on);
         let takes = format!(" {state} takes {}", taking.amount);
-        Html::name(&variable_name(event, taking.setting.variable)).say(&takes)
+        Html::name(event.variable(taking.setting.variable)).say(&takes)
     };
     let parts = Html::listed(claims.unclaimed.iter().map(part).collect());
     let words = format!("Not counted, since nobody requests {them} outright: ");
@@ -42,7 +42,7 @@ pub fn given(event: &Event, budget: &Budget, claims: &Claims) -> Html {
     let takings = takings(budget.terms);
     let gives = takings.iter().filter(|taking| !taking.setting.on);
     let part = |taking: &Taking| {
-        let name = Html::name(&variable_name(event, taking.setting.variable));
+        let name = Html::name(event.variable(taking.setting.variable));
         name.say(&format!(" gives {}", taking.amount))
     };
     let parts: Vec<Html> = gives.map(part).collect();
@@ -53,7 +53,7 @@ pub fn given(event: &Event, budget: &Budget, claims: &Claims) -> Html {
     };
     let counted = ", which is counted as room for it and as taken where it is off.";
     let limit = format!(
-        " So the host’s limit of {} stands at {}.",
+        " So the host's limit of {} stands at {}.",
         budget.bound, claims.room
     );
     let sentence = Html::listed(parts).say(where_on).say(counted).say(&limit);

@@ -6,9 +6,9 @@ use crate::page::budget_words as words;
 use crate::page::claims::{wishes, Claim, Claimant, Claims, Wish};
 use crate::page::document::{paragraph, section};
 use crate::page::html::Html;
-use crate::page::row_words::{on_or_off, variable_name};
 use crate::page::table::{row, scrolling, Cell};
 use crate::page::told::Told;
+use crate::row_words::on_or_off;
 use hainscope::Status;
 
 /// The patterns of the segments, once in a page.
@@ -124,8 +124,8 @@ impl Shown<'_> {
     /// A claim as a row of the table.
     fn claim(&self, claim: &Claim) -> Html {
         let setting = claim.taking.setting;
-        let variable = variable_name(self.event, setting.variable);
-        let requested = Html::name(&variable).say(&format!(" {}", on_or_off(setting.on)));
+        let variable = self.event.variable(setting.variable);
+        let requested = Html::name(variable).say(&format!(" {}", on_or_off(setting.on)));
         let takes = match claim.shared_with {
             None => Html::text(&claim.taking.amount.to_string()),
             Some(other) => Html::text(&format!("shared with {}", self.sharer(other))),
@@ -162,14 +162,11 @@ impl Shown<'_> {
     }
 
     /// The name of a claimant.
-    fn name(&self, claimant: Claimant) -> String {
-        let Claimant::PlugIn(request) = claimant else {
-            return "the host".to_string();
-        };
-        let named = self.told.those_of(&[request]);
-        named
-            .first()
-            .map_or(String::new(), |plug_in| plug_in.name.clone())
+    fn name(&self, claimant: Claimant) -> &str {
+        match claimant {
+            Claimant::Host => "the host",
+            Claimant::PlugIn(request) => self.event.plug_in(request),
+        }
     }
 }
 

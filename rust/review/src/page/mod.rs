@@ -5,7 +5,7 @@
 //!   sets tables.
 //! * `told` is what both pages may show; `verdict`, `sets` and `plug_in_table` are made from it alone.
 //! * `claims` adds up who requests how much of a budget; `budgets`, `budget_words` and `bar` show it.
-//! * `rows` and `row_words` tell every row in words.
+//! * `rows` tells every row in words.
 
 mod bar;
 mod budget_words;
@@ -15,7 +15,6 @@ mod document;
 mod escape;
 mod html;
 mod plug_in_table;
-pub mod row_words;
 mod rows;
 mod sets;
 mod table;
@@ -37,11 +36,11 @@ const REVIEW_STYLE: &str = include_str!("review.css");
 const READING: &str = "The most important plug-in has rank 1. The conflict is reduced to what causes the failure, and \
     blames the most important plug-ins that it can; the best set gives up nothing important for something less important. \
     A question asks whether some plug-ins can stand together. Both sets, and the numbers of questions asked for them, come \
-    from Hainscope’s proved library.";
+    from Hainscope's proved library.";
 /// How to read the bars.
 const READING_BARS: &str = "A bar shows who requests how much of a budget outright, in the order of importance from the \
     left; the number in a segment is a rank, and what lies beyond the limit is hatched across. A bar adds up and does not \
-    decide: what can stand is the library’s answer alone.";
+    decide: what can stand is the library's answer alone.";
 
 /// The reviewer's page of an event.
 pub fn page(event: &Event, answer: &Answer) -> String {

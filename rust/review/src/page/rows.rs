@@ -3,8 +3,8 @@
 use crate::event::{Event, EventRow};
 use crate::page::document::{paragraph, section};
 use crate::page::html::Html;
-use crate::page::row_words::{row_pieces, Piece};
 use crate::page::told::{PlugIn, Told};
+use crate::row_words::{row_pieces, Piece};
 
 /// What the host allows.
 pub fn host_rows(event: &Event) -> Html {

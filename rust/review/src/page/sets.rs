@@ -4,6 +4,7 @@
 use crate::page::document::{counted, paragraph, section};
 use crate::page::html::Html;
 use crate::page::told::Told;
+use crate::sentences::needed;
 use hainscope::{Report, Status};
 
 /// More plug-ins than these stand in columns.
@@ -20,15 +21,11 @@ fn conflict(told: &Told) -> Html {
     let content = match told.status() {
         Status::AllCanStand => words("There is none: everything that is requested can be granted."),
         Status::HostCannotStand => words(
-            "There is none among the plug-ins: the host’s rows fail by themselves, whoever requests what.",
+            "There is none among the plug-ins: the host's rows fail by themselves, whoever requests what.",
         ),
         Status::Conflict => {
-            let needed = match told.conflict.requests.len() {
-                1 => "It is needed for the failure: without it, the host’s rows can stand.",
-                2 => "Each of them is needed for the failure: without either of them, the other can stand.",
-                _ => "Each of them is needed for the failure: without any one of them, the others can stand.",
-            };
-            list(told, &told.conflict.requests).and(words(needed))
+            let conflict = &told.conflict.requests;
+            list(told, conflict).and(words(needed(conflict.len())))
         }
     };
     let content = content.and(questions(told.conflict));
@@ -41,7 +38,7 @@ fn best_set(told: &Told) -> Html {
         Status::HostCannotStand => words("There is none: no set of plug-ins can stand."),
         _ if told.plug_ins.is_empty() => words("It is empty, since there are no plug-ins."),
         _ if told.relaxation.requests.is_empty() => {
-            words("It is empty: no plug-in can stand beside the host’s rows.").and(left_out(told))
+            words("It is empty: no plug-in can stand beside the host's rows.").and(left_out(told))
         }
         _ => list(told, &told.relaxation.requests).and(left_out(told)),
     };

@@ -12,7 +12,7 @@ pub struct Told<'a> {
     /// The event's own name, if it has one.
     pub name: Option<&'a str>,
     /// The plug-ins, most important first.
-    pub plug_ins: Vec<PlugIn>,
+    pub plug_ins: Vec<PlugIn<'a>>,
     /// The report on the conflict.
     pub conflict: &'a Report,
     /// The report on the best set.
@@ -23,13 +23,13 @@ pub struct Told<'a> {
 
 /// A plug-in as an answer tells it.
 #[derive(Clone, Debug, PartialEq, Eq)]
-pub struct PlugIn {
+pub struct PlugIn<'a> {
     /// The number of its request.
     pub request: u16,
     /// Its place in the order: 1 is the most important one.
     pub rank: usize,
     /// Its name.
-    pub name: String,
+    pub name: &'a str,
 }
 
 impl<'a> Told<'a> {
@@ -38,7 +38,7 @@ impl<'a> Told<'a> {
         let plug_in = |(place, request): (usize, &u16)| PlugIn {
             request: *request,
             rank: place + 1,
-            name: name_of(event, *request),
+            name: event.plug_in(*request),
         };
         Told {
             name: event.name.as_deref(),
@@ -60,17 +60,8 @@ impl<'a> Told<'a> {
     }
 
     /// The plug-ins of some requests, most important first.
-    pub fn those_of(&self, requests: &[u16]) -> Vec<&PlugIn> {
-        let within = |plug_in: &&PlugIn| requests.contains(&plug_in.request);
+    pub fn those_of(&self, requests: &[u16]) -> Vec<&PlugIn<'a>> {
+        let within = |plug_in: &&PlugIn<'_>| requests.contains(&plug_in.request);
         self.plug_ins.iter().filter(within).collect()
-    }
-}
-
-/// The name of a request's plug-in; its number where the event names none.
-fn name_of(event: &Event, request: u16) -> String {
-    let place = usize::from(request).checked_sub(1);
-    match place.and_then(|place| event.plug_ins.get(place)) {
-        Some(name) => name.clone(),
-        None => request.to_string(),
     }
 }

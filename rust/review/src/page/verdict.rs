@@ -2,6 +2,7 @@
 
 use crate::page::html::Html;
 use crate::page::told::Told;
+use crate::sentences::{all_can_stand, HOST_CANNOT_STAND};
 use hainscope::Status;
 
 /// So many names are told in the sentence; more stand only in the list of the conflict.
@@ -23,18 +24,7 @@ fn verdict(told: &Told) -> Html {
     match told.status() {
         Status::AllCanStand => Html::text(&all_can_stand(told.plug_ins.len())),
         Status::Conflict => conflict(told),
-        Status::HostCannotStand => {
-            Html::text("The host’s own rows cannot stand, so no set of plug-ins can.")
-        }
-    }
-}
-
-/// All plug-ins can stand.
-fn all_can_stand(plug_ins: usize) -> String {
-    match plug_ins {
-        0 => "There are no plug-ins, and the host’s rows can stand.".to_string(),
-        1 => "The only plug-in can stand.".to_string(),
-        number => format!("All {number} plug-ins can stand together."),
+        Status::HostCannotStand => Html::text(HOST_CANNOT_STAND),
     }
 }
 
@@ -46,7 +36,7 @@ fn conflict(told: &Told) -> Html {
     match members.len() {
         1 => Html::text("The plug-in ")
             .and(names)
-            .say(" cannot stand beside the host’s rows."),
+            .say(" cannot stand beside the host's rows."),
         2..=MOST_NAMES => Html::text("The plug-ins ")
             .and(names)
             .say(" cannot stand together."),

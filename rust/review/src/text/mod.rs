@@ -18,7 +18,7 @@ use crate::event::Event;
 use std::str;
 
 pub use mistake::{Mistake, Mistakes, MOST_MISTAKES};
-pub use writing::{condition_words, write};
+pub use writing::write;
 
 /// Reads a text.
 ///

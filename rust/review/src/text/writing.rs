@@ -2,7 +2,8 @@
 
 use crate::event::{Event, EventRow};
 use crate::names::written;
-use hainscope::{variable_of, Condition};
+use crate::row_words::row_words;
+use hainscope::Condition;
 
 /// The text of an event.
 pub fn write(event: &Event) -> String {
@@ -19,7 +20,7 @@ pub fn write(event: &Event) -> String {
     if !event.plug_ins.is_empty() {
         lines.push(format!("plug-ins {}", all_written(event.plug_ins.iter())));
     }
-    lines.extend(event.rows.iter().map(|row| row_words(event, row)));
+    lines.extend(event.rows.iter().map(|row| statement(event, row)));
     if !event.order.is_empty() {
         let names = event.order.iter().map(|request| event.plug_in(*request));
         lines.push(format!("most important first: {}", all_written(names)));
@@ -49,38 +50,11 @@ fn all_written(names: impl Iterator<Item = impl AsRef<str>>) -> String {
 }
 
 /// A row as a statement.
-fn row_words(event: &Event, row: &EventRow) -> String {
-    let condition = condition_words(event, row);
+fn statement(event: &Event, row: &EventRow) -> String {
+    let condition = row_words(event, row);
     match (row.row.role, &row.row.condition) {
         (0, Condition::Clause(_)) => format!("host requires {condition}"),
         (0, Condition::Linear { .. }) => format!("host allows {condition}"),
         (request, _) => format!("{} requests {condition}", written(event.plug_in(request))),
-    }
-}
-
-/// What a row asks, in the words of a statement.
-pub fn condition_words(event: &Event, EventRow { row, budget }: &EventRow) -> String {
-    let name = |variable| written(event.variable(variable));
-    match &row.condition {
-        Condition::Clause(literals) if literals.is_empty() => "the impossible".to_string(),
-        Condition::Clause(literals) => {
-            let literal = |literal: &u16| match variable_of(*literal) {
-                (variable, true) => format!("{} on", name(variable)),
-                (variable, false) => format!("{} off", name(variable)),
-            };
-            let literals: Vec<String> = literals.iter().map(literal).collect();
-            literals.join(" or ")
-        }
-        Condition::Linear { bound, terms } => {
-            let term =
-                |(variable, weight): &(u16, i32)| format!("{} takes {weight}", name(*variable));
-            let terms: Vec<String> = terms.iter().map(term).collect();
-            let terms = match terms.is_empty() {
-                true => "nothing".to_string(),
-                false => terms.join(", "),
-            };
-            let of = budget.as_ref().map(|name| format!(" of {}", written(name)));
-            format!("at most {bound}{}: {terms}", of.unwrap_or_default())
-        }
     }
 }

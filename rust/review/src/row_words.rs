@@ -1,5 +1,5 @@
-//! The words of a row, in the language of an event's text. Names are kept apart from the words
-//! around them, so that a page can set them apart as well.
+//! What a row asks, in the words of an event's text. Names are kept apart from the words around them,
+//! so that a page can set them apart as well.
 
 use crate::event::{Event, EventRow};
 use crate::names::written;
@@ -14,7 +14,7 @@ pub enum Piece {
     Name(String),
 }
 
-/// The words of a row.
+/// What a row asks.
 pub fn row_words(event: &Event, row: &EventRow) -> String {
     let text = |piece| match piece {
         Piece::Words(text) | Piece::Name(text) => text,
@@ -22,19 +22,11 @@ pub fn row_words(event: &Event, row: &EventRow) -> String {
     row_pieces(event, row).into_iter().map(text).collect()
 }
 
-/// The words of a row, names apart.
+/// What a row asks, names apart.
 pub fn row_pieces(event: &Event, row: &EventRow) -> Vec<Piece> {
     match &row.row.condition {
         Condition::Clause(literals) => clause(event, literals),
         Condition::Linear { bound, terms } => budget(event, row.budget.as_deref(), *bound, terms),
-    }
-}
-
-/// The name of a variable; its number where the event names none.
-pub fn variable_name(event: &Event, variable: u16) -> String {
-    match event.variables.get(usize::from(variable)) {
-        Some(name) => name.clone(),
-        None => variable.to_string(),
     }
 }
 
@@ -57,7 +49,7 @@ fn clause(event: &Event, literals: &[u16]) -> Vec<Piece> {
             pieces.push(Piece::Words(" or ".to_string()));
         }
         let (variable, on) = variable_of(*literal);
-        pieces.push(name(&variable_name(event, variable)));
+        pieces.push(name(event.variable(variable)));
         pieces.push(Piece::Words(format!(" {}", on_or_off(on))));
     }
     pieces
@@ -78,7 +70,7 @@ fn budget(event: &Event, of: Option<&str>, bound: i32, terms: &[(u16, i32)]) -> 
         if place > 0 {
             pieces.push(Piece::Words(", ".to_string()));
         }
-        pieces.push(name(&variable_name(event, *variable)));
+        pieces.push(name(event.variable(*variable)));
         pieces.push(Piece::Words(format!(" takes {weight}")));
     }
     pieces
