@@ -45,14 +45,20 @@ pub fn read(bytes: &[u8]) -> Result<Event, Mistakes> {
     gathering::event(&statements)
 }
 
+/// Whether bytes begin as a text in UTF-16 does, with a byte order mark.
+pub fn is_utf_16(bytes: &[u8]) -> bool {
+    bytes.starts_with(&[0xFF, 0xFE]) || bytes.starts_with(&[0xFE, 0xFF])
+}
+
 /// The mistake that a byte is no part of a text.
 fn not_unicode(bytes: &[u8], good: usize) -> Mistakes {
     let before = String::from_utf8_lossy(&bytes[..good]);
     let line = 1 + before.matches('\n').count();
     let column = 1 + before.chars().rev().take_while(|c| *c != '\n').count();
     let place = places::Place { line, column };
-    Mistakes::from(place.mistake(format!(
-        "expected a text in UTF-8, found the byte {:#04X}",
-        bytes[good]
-    )))
+    let found = match is_utf_16(bytes) {
+        true => "one in UTF-16".to_string(),
+        false => format!("the byte {:#04X}", bytes[good]),
+    };
+    Mistakes::from(place.mistake(format!("expected a text in UTF-8, found {found}")))
 }
