@@ -3,7 +3,8 @@
 
 use super::mistake::Mistake;
 use super::places::Place;
-use crate::names::{may_stand_in_a_name, MARKS};
+use super::MOST_WORDS;
+use crate::names::{may_stand_in_a_name, ordinal, MARKS};
 
 /// What stands at a place of a line.
 #[derive(Clone, Debug, PartialEq, Eq)]
@@ -41,6 +42,11 @@ pub(super) fn tokens(line: usize, text: &str) -> Result<Line, Mistake> {
         if letters[index].is_whitespace() {
             index += 1;
             continue;
+        }
+        if tokens.len() == MOST_WORDS {
+            let number = ordinal(MOST_WORDS + 1);
+            let words = format!("the {number} word of a line, at most {MOST_WORDS}");
+            return Err(place(index).mistake(words));
         }
         let (token, length) = token(&letters[index..], place(index))?;
         tokens.push((token, place(index)));

@@ -117,44 +117,18 @@ fn one_thing_a_million_times() {
 }
 
 #[test]
-fn a_million_names_that_are_unknown() {
-    let plug_ins: Vec<String> = (10..74)
-        .map(|number| format!("{number}{}", "x".repeat(78)))
-        .collect();
-    let declared = format!("plug-ins {}\n", plug_ins.join(", "));
-    let unknown = format!("{}, ", "y".repeat(78)).repeat(LENGTH / 80);
-    assert_ends_soon(
-        "in the order",
-        format!("{declared}most important first: {unknown}z"),
-    );
-    let then = unknown.replace(", ", "\nthen: ");
-    assert_ends_soon(
-        "after then",
-        format!("{declared}most important first: {then}z"),
-    );
-    let rows = format!("{} requests the impossible\n", "y".repeat(78));
-    assert_ends_soon("in rows", declared + &rows.repeat(LENGTH / rows.len()));
-}
-
-#[test]
-fn names_that_are_all_different() {
-    for word in ["variables", "plug-ins"] {
-        let names: Vec<String> = (0..LENGTH / 8).map(|number| format!("n{number}")).collect();
-        let names = names.join(", ");
-        assert_ends_soon(word, format!("{word} {names}"));
-        let found = mistakes(format!("{word} {names}\n{word} n0, n99999").as_bytes());
-        let first = "is declared twice, first on line 1";
-        assert!(
-            found[1].words.ends_with(&format!("n0 {first}")),
-            "{}",
-            found[1]
-        );
-        assert!(
-            found[2].words.ends_with(&format!("n99999 {first}")),
-            "{}",
-            found[2]
-        );
-    }
+fn a_megabyte_of_names_that_are_unknown() {
+    let known = (10..74).map(|number| format!("{number}{}", "x".repeat(78)));
+    let known = known.collect::<Vec<String>>().join(", ");
+    let declared = format!("plug-ins {known}\n");
+    let unknown = "y".repeat(80);
+    let names = vec![unknown.as_str(); 400].join(", ");
+    let then = format!("then: {names}\n").repeat(LENGTH / names.len());
+    let order = format!("{declared}most important first: {names}\n{then}");
+    assert_ends_soon("in the order", order);
+    let literals = vec![format!("{unknown} on"); 60].join(" or ");
+    let row = format!("{} requests {literals}\n", &known[..80]);
+    assert_ends_soon("in rows", declared + &row.repeat(LENGTH / row.len()));
 }
 
 #[test]
