@@ -10,6 +10,9 @@ use crate::names::{is_joiner, quoted, MOST_NAME, RESERVED};
 /// What is said where a name seems to have several words.
 const SEVERAL_WORDS: &str = "a name of several words stands in quotes, \"like this\"";
 
+/// What is said where a statement seems to go on with the next line.
+const ONE_LINE: &str = "a statement stands on one line";
+
 /// How many words after the first are looked at for one that tells what a line is meant as.
 const WORDS_LOOKED_AT: usize = 8;
 
@@ -166,7 +169,22 @@ impl<'a> Cursor<'a> {
             Some(Token::Quoted(name)) => shown("name", name, quoted(name)),
         };
         let words = format!("expected {expected}, found {found}");
-        self.place().mistake(words)
+        let mistake = self.place().mistake(words);
+        match self.ends_too_soon() {
+            true => mistake.with(ONE_LINE),
+            false => mistake,
+        }
+    }
+
+    /// Whether the line has ended after a mark or a word that promises more.
+    fn ends_too_soon(&self) -> bool {
+        let last = self.line.tokens.last().map(|(token, _)| token);
+        let promises = match last {
+            Some(Token::Comma | Token::Colon) => true,
+            Some(Token::Bare(word)) => word == "or",
+            _ => false,
+        };
+        self.token().is_none() && promises
     }
 
     /// The mistake that something else was expected after a name. Where words stand here, and then one
@@ -175,7 +193,7 @@ impl<'a> Cursor<'a> {
         let mistake = self.expected(expected);
         let more = self.line.tokens.iter().skip(self.next);
         let more = more.map_while(|token| bare(Some(token)));
-        let more = more.take_while(|word| !RESERVED.contains(word)).count();
+        let more = more.take_while(|word| is_like_a_name(word)).count();
         let end = match self.line.tokens.get(self.next + more) {
             None => "",
             Some((Token::Comma, _)) => ",",
@@ -199,6 +217,11 @@ impl<'a> Cursor<'a> {
     fn token(&self) -> Option<&'a Token> {
         self.line.tokens.get(self.next).map(|(token, _)| token)
     }
+}
+
+/// Whether a word may be one of several that are meant as a name.
+fn is_like_a_name(word: &str) -> bool {
+    word.contains(char::is_alphanumeric) && !RESERVED.contains(&word)
 }
 
 /// Why a word is no name, if it is none.

@@ -86,14 +86,16 @@ impl<'a> Declared<'a> {
     fn unknown(&self, name: &Name, other: &Declared) -> Mistake {
         let sort = self.sort;
         let known: Vec<&str> = self.names.iter().map(|name| name.name.as_str()).collect();
-        let hint = if other.numbers.contains_key(name.name.as_str()) {
-            format!("it is a {}", other.sort)
-        } else if known.is_empty() {
-            format!("no {sort} is declared")
-        } else if let Some(nearest) = near(&name.name, &known) {
-            format!("the nearest is {}", written(nearest))
-        } else {
-            format!("known are {}", some_of(&known))
+        let nearest = near(&name.name, &known).map(written);
+        let is_other = other.numbers.contains_key(name.name.as_str());
+        let hint = match (nearest, is_other) {
+            (Some(nearest), false) => format!("the nearest is {nearest}"),
+            (Some(nearest), true) => {
+                format!("it is a {}; the nearest {sort} is {nearest}", other.sort)
+            }
+            (None, true) => format!("it is a {}", other.sort),
+            (None, false) if known.is_empty() => format!("no {sort} is declared"),
+            (None, false) => format!("known are {}", some_of(&known)),
         };
         let words = format!("no {sort} is named {}; {hint}", written(&name.name));
         name.place.mistake(words)

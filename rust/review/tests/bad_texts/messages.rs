@@ -82,6 +82,10 @@ fn an_event_is_named_once() {
 fn names_that_are_known_are_told_where_none_is_near() {
     let none = "line 1, column 15: no variable is named gps; no variable is declared";
     assert_eq!(shown("host requires gps on"), [none]);
+    let both = "variables maps\nplug-ins Maps\nmaps requests maps on";
+    let hint = "it is a variable; the nearest plug-in is Maps";
+    let expected = format!("line 3, column 1: no plug-in is named maps; {hint}");
+    assert_eq!(shown(both), [expected]);
     let many = "variables a1, b2, c3, d4, e5, f6, g7, h8\nhost requires camera on";
     let listed = "known are a1, b2, c3, d4, e5, f6 and 2 more";
     let expected = format!("line 2, column 15: no variable is named camera; {listed}");
