@@ -126,7 +126,12 @@ fn the_fields_of_the_json_are_those_of_the_page() {
     for field in ["event", "answered", "order", "conflict", "relaxation"] {
         assert!(fields.contains(field) && answered.contains(&format!("\"{field}\": ")));
     }
-    assert!(fields.contains("refusal") && refused.contains("\"refusal\": "));
-    assert!(fields.contains("mistakes") && mistaken.contains("\"mistakes\": "));
+    assert!(
+        fields.contains("refusal") && refused.starts_with("{\"answered\": false, \"refusal\": {")
+    );
+    assert!(
+        fields.contains("mistakes")
+            && mistaken.starts_with("{\"answered\": false, \"mistakes\": [")
+    );
     assert_eq!(fields.len(), 7);
 }

@@ -72,45 +72,48 @@ fn random_bytes_letters_and_words() {
     }
 }
 
+/// What is repeated: what it is, what stands before it, and what is said again and again.
+const REPEATED: &[(&str, &str, &str)] = &[
+    ("one word", "", "x"),
+    ("one number", "host allows at most ", "9"),
+    ("digits for a name", "variables ", "9"),
+    ("digits for a statement", "", "9"),
+    ("one line of words", "", "x "),
+    ("one open quote", "variables \"", "x"),
+    ("a quote a letter", "variables ", "\"x\""),
+    ("quotes", "", "\""),
+    ("backslashes", "", "\\"),
+    ("backslashes after a quote", "\"", "\\"),
+    ("escaped quotes", "variables \"", "\\\""),
+    ("quotes in quotes", "\"", "\\\"\" \""),
+    ("commas", "", ","),
+    ("commas after a word", "variables ", ","),
+    ("colons", "most important first", ":"),
+    ("one variable", "variables ", "x, "),
+    (
+        "one plug-in in the order",
+        "plug-in x\nmost important first: x, ",
+        "x, ",
+    ),
+    ("literals", "variable x\nhost requires x on", " or x on"),
+    (
+        "terms",
+        "variable x\nhost allows at most 1: x takes 1",
+        ", x takes 1",
+    ),
+    ("rows", "variable x\n", "host requires x on\n"),
+    ("events", "", "event x\n"),
+    ("orders", "plug-in x\n", "most important first: x\n"),
+    ("thens", "plug-in x\nmost important first: x\n", "then: x\n"),
+    ("words that are near a beginning", "", "hsot\n"),
+    ("words that may be more of a name", "variables x", " y"),
+    ("byte order marks", "\u{feff}", "\u{feff}"),
+    ("carriage returns", "\r", "\r"),
+];
+
 #[test]
 fn one_thing_a_million_times() {
-    for (name, begin, part) in [
-        ("one word", "", "x"),
-        ("one number", "host allows at most ", "9"),
-        ("digits for a name", "variables ", "9"),
-        ("digits for a statement", "", "9"),
-        ("one line of words", "", "x "),
-        ("one open quote", "variables \"", "x"),
-        ("a quote a letter", "variables ", "\"x\""),
-        ("quotes", "", "\""),
-        ("backslashes", "", "\\"),
-        ("backslashes after a quote", "\"", "\\"),
-        ("escaped quotes", "variables \"", "\\\""),
-        ("quotes in quotes", "\"", "\\\"\" \""),
-        ("commas", "", ","),
-        ("commas after a word", "variables ", ","),
-        ("colons", "most important first", ":"),
-        ("one variable", "variables ", "x, "),
-        (
-            "one plug-in in the order",
-            "plug-in x\nmost important first: x, ",
-            "x, ",
-        ),
-        ("literals", "variable x\nhost requires x on", " or x on"),
-        (
-            "terms",
-            "variable x\nhost allows at most 1: x takes 1",
-            ", x takes 1",
-        ),
-        ("rows", "variable x\n", "host requires x on\n"),
-        ("events", "", "event x\n"),
-        ("orders", "plug-in x\n", "most important first: x\n"),
-        ("thens", "plug-in x\nmost important first: x\n", "then: x\n"),
-        ("words that are near a beginning", "", "hsot\n"),
-        ("words that may be more of a name", "variables x", " y"),
-        ("byte order marks", "\u{feff}", "\u{feff}"),
-        ("carriage returns", "\r", "\r"),
-    ] {
+    for (name, begin, part) in REPEATED {
         let repeated = part.repeat(LENGTH / part.len());
         assert_ends_soon(name, format!("{begin}{repeated}"));
     }

@@ -105,6 +105,15 @@ const NAMES: [&str; 14] = [
     "\u{10ffff}\u{fffd}",
 ];
 
+/// The number of an answer's status.
+fn status(answer: &Answer) -> usize {
+    match answer.status() {
+        Status::AllCanStand => 0,
+        Status::Conflict => 1,
+        Status::HostCannotStand => 2,
+    }
+}
+
 #[test]
 fn hostile_names_come_back_from_the_json() {
     let mut statuses = [0; 3];
@@ -135,11 +144,7 @@ fn hostile_names_come_back_from_the_json() {
             told(relaxation.field("left_out")),
             expected(&answer.left_out)
         );
-        let status = match answer.status() {
-            Status::AllCanStand => 0,
-            Status::Conflict => 1,
-            Status::HostCannotStand => 2,
-        };
+        let status = status(&answer);
         statuses[status] += 1;
         for report in [conflict, relaxation] {
             assert_eq!(report.field("status"), &Value::Number(status as u64));
