@@ -186,3 +186,31 @@ fn a_text_with_every_statement_is_the_table_that_it_says() {
     let unstated = text::read(unstated.as_bytes()).unwrap();
     assert_eq!(unstated.table(), table(&[1, 2, 3]));
 }
+
+#[test]
+fn a_table_is_written_in_these_words() {
+    let table = TableBuilder::new(2, 3)
+        .linear(0, -7, &[(0, 3), (1, -4), (0, 5)])
+        .linear(2, i32::MIN, &[])
+        .clause(3, &[refuses(1), wants(0)])
+        .clause(0, &[])
+        .order(&[2, 3, 1])
+        .table();
+    let expected = "# 2 variables, 3 plug-ins, 4 rows\n\
+        variables 0, 1\n\
+        plug-ins 1, 2, 3\n\
+        host allows at most -7: 0 takes 3, 1 takes -4, 0 takes 5\n\
+        2 requests at most -2147483648: nothing\n\
+        3 requests 1 off or 0 on\n\
+        host requires the impossible\n\
+        most important first: 2, 3, 1\n";
+    assert_eq!(text::write(&there_and_back("table", &table)), expected);
+    let least = there_and_back("no parts", &TableBuilder::new(0, 0).table());
+    assert_eq!(text::write(&least), "# 0 variables, 0 plug-ins, 0 rows\n");
+    let ones = TableBuilder::new(1, 1).clause(1, &[wants(0)]).table();
+    let ones = text::write(&there_and_back("one of each", &ones));
+    assert!(
+        ones.starts_with("# 1 variable, 1 plug-in, 1 row\n"),
+        "{ones}"
+    );
+}

@@ -132,13 +132,8 @@ impl<'a> Cursor<'a> {
             });
         }
         self.next += 1;
-        let beyond = if word.starts_with('-') {
-            i64::MIN
-        } else {
-            i64::MAX
-        };
         Ok(Number {
-            value: word.parse().unwrap_or(beyond),
+            value: word.parse().unwrap_or(i64::MAX),
             written: word.to_string(),
             place,
         })
@@ -201,7 +196,7 @@ impl<'a> Cursor<'a> {
             Some((Token::Bare(word), _)) => word,
             Some((Token::Quoted(_), _)) => "\"",
         };
-        match more > 0 && ends.contains(&end) {
+        match ends.contains(&end) {
             true => mistake.with(SEVERAL_WORDS),
             false => mistake,
         }

@@ -42,8 +42,8 @@ pub(super) fn shown(sort: &str, name: &str, written: String) -> String {
     }
 }
 
-/// A whole number where it stands. One that is beyond 64 bits is as far from 0 as these go: it is
-/// beyond every limit anyway.
+/// A whole number where it stands. One that is beyond 64 bits is the greatest of these: it is beyond
+/// every limit anyway.
 #[derive(Clone, Debug)]
 pub(super) struct Number {
     pub value: i64,
