@@ -71,8 +71,10 @@ pub fn event(bytes: &[u8]) -> Result<Event, NoEvent> {
 }
 
 /// Whether bytes are meant as a table: one of the first four, where a table has the length and the
-/// kind of HEAD, is one that no text begins with, or there are none.
+/// kind of HEAD, is one that no text begins with, or there are none. A text in UTF-16 has such bytes
+/// too, and is told by its byte order mark.
 pub fn is_table(bytes: &[u8]) -> bool {
     let no_letter = |byte: &u8| byte.is_ascii_control() && !byte.is_ascii_whitespace();
-    bytes.is_empty() || bytes.iter().take(4).any(no_letter)
+    let begins_as_one = || bytes.iter().take(4).any(no_letter) && !text::is_utf_16(bytes);
+    bytes.is_empty() || begins_as_one()
 }

@@ -36,11 +36,15 @@ pub const MARKS: [char; 4] = [',', ':', '"', '#'];
 pub fn written(name: &str) -> String {
     let ends_a_word = |letter: char| letter.is_whitespace() || MARKS.contains(&letter);
     let bare = !name.is_empty() && !name.contains(ends_a_word) && !RESERVED.contains(&name);
-    if bare {
-        name.to_string()
-    } else {
-        format!("\"{}\"", name.replace('\\', "\\\\").replace('"', "\\\""))
+    match bare {
+        true => name.to_string(),
+        false => quoted(name),
     }
+}
+
+/// A name in quotes.
+pub fn quoted(name: &str) -> String {
+    format!("\"{}\"", name.replace('\\', "\\\\").replace('"', "\\\""))
 }
 
 /// Several things in a sentence: "a", "a and b", "a, b and c".
@@ -69,11 +73,22 @@ pub fn may_stand_in_a_name(letter: char) -> bool {
     !letter.is_control() && !is_invisible(letter)
 }
 
-/// Marks of direction and separators that nobody sees. Joiners stay: some scripts need them.
+/// Characters that change or join those beside them, and are nothing by themselves: some scripts need
+/// them, so that they may stand in a name, but no name is made of them alone.
+pub fn is_joiner(letter: char) -> bool {
+    matches!(
+        letter,
+        '\u{180b}'..='\u{180d}' | '\u{180f}' | '\u{200c}' | '\u{200d}' | '\u{fe00}'..='\u{fe0f}' | '\u{e0100}'..='\u{e01ef}'
+    )
+}
+
+/// Marks of direction, fillers and separators that nobody sees.
 fn is_invisible(letter: char) -> bool {
     matches!(
         letter,
-        '\u{ad}' | '\u{61c}' | '\u{180e}' | '\u{200b}' | '\u{200e}' | '\u{200f}' | '\u{2028}'..='\u{202e}'
-            | '\u{2060}'..='\u{206f}' | '\u{feff}' | '\u{fff9}'..='\u{fffb}' | '\u{e0000}'..='\u{e007f}'
+        '\u{ad}' | '\u{34f}' | '\u{61c}' | '\u{115f}' | '\u{1160}' | '\u{17b4}' | '\u{17b5}' | '\u{180e}' | '\u{200b}'
+            | '\u{200e}' | '\u{200f}' | '\u{2028}'..='\u{202e}' | '\u{2060}'..='\u{206f}' | '\u{2800}' | '\u{3164}'
+            | '\u{feff}' | '\u{ffa0}' | '\u{fff0}'..='\u{fffb}' | '\u{1bca0}'..='\u{1bca3}'
+            | '\u{1d173}'..='\u{1d17a}' | '\u{e0000}'..='\u{e00ff}' | '\u{e01f0}'..='\u{e0fff}'
     )
 }

@@ -1,11 +1,20 @@
 //! A line's words, taken one after the other, and what is said where another was expected.
 
 use super::mistake::Mistake;
-use super::nearest::near;
-use super::places::{Name, Number, Place};
+use super::nearest::meant;
+use super::places::{shown, Name, Number, Place};
 use super::statement::Statement;
 use super::tokens::{Line, Token};
-use crate::names::RESERVED;
+use crate::names::{is_joiner, quoted, MOST_NAME, RESERVED};
+
+/// What is said where a name seems to have several words.
+const SEVERAL_WORDS: &str = "a name of several words stands in quotes, \"like this\"";
+
+/// What is said where a statement seems to go on with the next line.
+const ONE_LINE: &str = "a statement stands on one line";
+
+/// How many words after the first are looked at for one that tells what a line is meant as.
+const WORDS_LOOKED_AT: usize = 8;
 
 /// The words of a line from some place on.
 pub(super) struct Cursor<'a> {
@@ -30,10 +39,16 @@ impl<'a> Cursor<'a> {
         bare(self.line.tokens.get(self.next))
     }
 
-    /// Whether the word after the next is this one without quotes, or near to it.
-    pub fn second_is_near(&self, word: &str) -> bool {
-        let second = bare(self.line.tokens.get(self.next + 1));
-        second.is_some_and(|second| near(second, &[word]).is_some())
+    /// Whether the word after the next is this one without quotes.
+    pub fn has_second(&self, word: &str) -> bool {
+        bare(self.line.tokens.get(self.next + 1)) == Some(word)
+    }
+
+    /// Whether one of the words after the next is meant as this one.
+    pub fn has_later(&self, word: &str) -> bool {
+        let later = self.line.tokens.iter().skip(self.next + 1);
+        let mut later = later.take(WORDS_LOOKED_AT).map(|token| bare(Some(token)));
+        later.any(|later| later.is_some_and(|later| meant(later, &[word]).is_some()))
     }
 
     /// Goes on to the word after the next.
@@ -49,6 +64,12 @@ impl<'a> Cursor<'a> {
         }
         self.next += 1;
         Ok(())
+    }
+
+    /// Takes this word, which was expected after a name.
+    pub fn word_after_name(&mut self, word: &str, expected: &str) -> Result<(), Mistake> {
+        let taken = self.word(word, expected);
+        taken.map_err(|_| self.expected_after_name(expected, &[word]))
     }
 
     /// Takes a colon, which was expected.
@@ -79,6 +100,9 @@ impl<'a> Cursor<'a> {
             Some(Token::Bare(word)) => word,
             _ => return Err(self.expected(expected)),
         };
+        if let Some(wrong) = no_name(name) {
+            return Err(place.mistake(wrong));
+        }
         self.next += 1;
         let name = name.clone();
         Ok(Name { name, place })
@@ -101,16 +125,15 @@ impl<'a> Cursor<'a> {
         };
         let digits = word.strip_prefix('-').unwrap_or(word);
         if digits.is_empty() || !digits.bytes().all(|digit| digit.is_ascii_digit()) {
-            return Err(self.expected(&format!("{expected}, a whole number")));
+            let mistake = self.expected(&format!("{expected}, a whole number"));
+            return Err(match word.starts_with(['\u{2212}', '\u{2013}']) {
+                true => mistake.with("a minus is written -"),
+                false => mistake,
+            });
         }
         self.next += 1;
-        let beyond = if word.starts_with('-') {
-            i64::MIN
-        } else {
-            i64::MAX
-        };
         Ok(Number {
-            value: word.parse().unwrap_or(beyond),
+            value: word.parse().unwrap_or(i64::MAX),
             written: word.to_string(),
             place,
         })
@@ -121,11 +144,14 @@ impl<'a> Cursor<'a> {
         if self.token().is_none() {
             return Ok(());
         }
-        Err(self.expected(match stated {
-            Statement::Event(_) => "the end of the line",
-            Statement::Row(row) => row.condition.expected_after(),
-            _ => "a comma and a further name, or the end of the line",
-        }))
+        Err(match stated {
+            Statement::Event(_) => self.expected_after_name("the end of the line", &[""]),
+            Statement::Row(row) => self.expected(row.condition.expected_after()),
+            _ => self.expected_after_name(
+                "a comma and a further name, or the end of the line",
+                &[",", ""],
+            ),
+        })
     }
 
     /// The mistake that something else was expected here.
@@ -134,16 +160,51 @@ impl<'a> Cursor<'a> {
             None => "the end of the line".to_string(),
             Some(Token::Comma) => "a comma".to_string(),
             Some(Token::Colon) => "a colon".to_string(),
-            Some(Token::Bare(word)) => word.clone(),
-            Some(Token::Quoted(name)) => format!("\"{name}\""),
+            Some(Token::Bare(word)) => shown("word", word, word.clone()),
+            Some(Token::Quoted(name)) => shown("name", name, quoted(name)),
         };
         let words = format!("expected {expected}, found {found}");
-        self.place().mistake(words)
+        let mistake = self.place().mistake(words);
+        match self.ends_too_soon() {
+            true => mistake.with(ONE_LINE),
+            false => mistake,
+        }
+    }
+
+    /// Whether the line has ended after a mark or a word that promises more.
+    fn ends_too_soon(&self) -> bool {
+        let last = self.line.tokens.last().map(|(token, _)| token);
+        let promises = match last {
+            Some(Token::Comma | Token::Colon) => true,
+            Some(Token::Bare(word)) => word == "or",
+            _ => false,
+        };
+        self.token().is_none() && promises
+    }
+
+    /// The mistake that something else was expected after a name. Where words stand here, and then one
+    /// of these ("," being a comma, ":" a colon, "" the end of the line), they may be more of the name.
+    pub fn expected_after_name(&self, expected: &str, ends: &[&str]) -> Mistake {
+        let mistake = self.expected(expected);
+        let more = self.line.tokens.iter().skip(self.next);
+        let more = more.map_while(|token| bare(Some(token)));
+        let more = more.take_while(|word| is_like_a_name(word)).count();
+        let end = match self.line.tokens.get(self.next + more) {
+            None => "",
+            Some((Token::Comma, _)) => ",",
+            Some((Token::Colon, _)) => ":",
+            Some((Token::Bare(word), _)) => word,
+            Some((Token::Quoted(_), _)) => "\"",
+        };
+        match ends.contains(&end) {
+            true => mistake.with(SEVERAL_WORDS),
+            false => mistake,
+        }
     }
 
     /// The mistake that a word is none of those that may stand here, if one of them is near.
     pub fn misspelt(&self, word: &str, known: &[&str]) -> Option<Mistake> {
-        let nearest = near(word, known)?;
+        let nearest = meant(word, known)?;
         let words = format!("no statement begins with {word}; the nearest word is {nearest}");
         Some(self.place().mistake(words))
     }
@@ -151,6 +212,25 @@ impl<'a> Cursor<'a> {
     fn token(&self) -> Option<&'a Token> {
         self.line.tokens.get(self.next).map(|(token, _)| token)
     }
+}
+
+/// Whether a word may be one of several that are meant as a name.
+fn is_like_a_name(word: &str) -> bool {
+    word.contains(char::is_alphanumeric) && !RESERVED.contains(&word)
+}
+
+/// Why a word is no name, if it is none.
+fn no_name(word: &str) -> Option<String> {
+    let length = word.chars().count();
+    if length > MOST_NAME {
+        return Some(format!(
+            "a name of {length} characters, at most {MOST_NAME}"
+        ));
+    }
+    let seen = word
+        .chars()
+        .any(|letter| !is_joiner(letter) && !letter.is_whitespace());
+    (!seen).then(|| "expected a name, found characters that nobody sees".to_string())
 }
 
 fn bare(token: Option<&(Token, Place)>) -> Option<&str> {

@@ -6,7 +6,7 @@ use super::places::Name;
 use crate::names::{listed, written};
 use std::collections::HashMap;
 
-/// The most names that are listed where none is near.
+/// The most names that are listed in a mistake.
 const MOST_LISTED: usize = 6;
 
 /// All names that a text declares.
@@ -32,7 +32,7 @@ pub(super) struct Declared<'a> {
     /// What they are: "variable" or "plug-in".
     sort: &'static str,
     names: Vec<&'a Name>,
-    numbers: HashMap<&'a str, u16>,
+    numbers: HashMap<&'a str, usize>,
 }
 
 impl<'a> Declared<'a> {
@@ -47,7 +47,7 @@ impl<'a> Declared<'a> {
         let mut numbers = HashMap::new();
         for name in declared {
             if let Some(number) = numbers.get(name.name.as_str()) {
-                let first: &Name = names[usize::from(*number)];
+                let first: &Name = names[*number];
                 let words = format!(
                     "{sort} {} is declared twice, first on line {}",
                     written(&name.name),
@@ -55,8 +55,7 @@ impl<'a> Declared<'a> {
                 );
                 mistakes.add(name.place.mistake(words));
             } else {
-                let number = u16::try_from(names.len()).unwrap_or(u16::MAX);
-                numbers.insert(name.name.as_str(), number);
+                numbers.insert(name.name.as_str(), names.len());
                 names.push(name);
             }
         }
@@ -79,21 +78,24 @@ impl<'a> Declared<'a> {
     /// Where a name stands among these, the first being 0; the other sort is for the mistake alone.
     fn number(&self, name: &Name, other: &Declared) -> Result<u16, Mistake> {
         let found = self.numbers.get(name.name.as_str());
-        found.copied().ok_or_else(|| self.unknown(name, other))
+        let number = found.and_then(|number| u16::try_from(*number).ok());
+        number.ok_or_else(|| self.unknown(name, other))
     }
 
     /// The mistake that no name of this sort is this one.
     fn unknown(&self, name: &Name, other: &Declared) -> Mistake {
         let sort = self.sort;
         let known: Vec<&str> = self.names.iter().map(|name| name.name.as_str()).collect();
-        let hint = if other.numbers.contains_key(name.name.as_str()) {
-            format!("it is a {}", other.sort)
-        } else if known.is_empty() {
-            format!("no {sort} is declared")
-        } else if let Some(nearest) = near(&name.name, &known) {
-            format!("the nearest is {}", written(nearest))
-        } else {
-            format!("known are {}", some_of(&known))
+        let nearest = near(&name.name, &known).map(written);
+        let is_other = other.numbers.contains_key(name.name.as_str());
+        let hint = match (nearest, is_other) {
+            (Some(nearest), false) => format!("the nearest is {nearest}"),
+            (Some(nearest), true) => {
+                format!("it is a {}; the nearest {sort} is {nearest}", other.sort)
+            }
+            (None, true) => format!("it is a {}", other.sort),
+            (None, false) if known.is_empty() => format!("no {sort} is declared"),
+            (None, false) => format!("known are {}", some_of(&known)),
         };
         let words = format!("no {sort} is named {}; {hint}", written(&name.name));
         name.place.mistake(words)
@@ -101,11 +103,11 @@ impl<'a> Declared<'a> {
 }
 
 /// The first of some names, and how many there are beside them.
-fn some_of(names: &[&str]) -> String {
+pub(super) fn some_of(names: &[impl AsRef<str>]) -> String {
     let mut told: Vec<String> = names
         .iter()
         .take(MOST_LISTED)
-        .map(|name| written(name))
+        .map(|name| written(name.as_ref()))
         .collect();
     if names.len() > MOST_LISTED {
         told.push(format!("{} more", names.len() - MOST_LISTED));

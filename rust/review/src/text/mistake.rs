@@ -16,6 +16,15 @@ pub struct Mistake {
     pub words: String,
 }
 
+impl Mistake {
+    /// The mistake with a hint more.
+    pub(super) fn with(mut self, hint: &str) -> Mistake {
+        self.words.push_str("; ");
+        self.words.push_str(hint);
+        self
+    }
+}
+
 impl fmt::Display for Mistake {
     fn fmt(&self, out: &mut fmt::Formatter) -> fmt::Result {
         let Mistake {

@@ -1,16 +1,26 @@
 //! The nearest of some known words: the one that fewest slips of the pen make of another.
 
-/// The word that is nearest to another, if one is near: at most half of its letters are slips.
-pub(super) fn near<'a>(word: &str, known: &[&'a str]) -> Option<&'a str> {
-    let (distance, nearest) = nearest(word, known)?;
-    let longer = word.chars().count().max(nearest.chars().count());
-    (2 * distance <= longer).then_some(nearest)
+/// The name that is nearest to another, if one is near: at most half of its letters are slips.
+pub(super) fn near<'a>(name: &str, known: &[&'a str]) -> Option<&'a str> {
+    nearest(name, known, 2)
 }
 
-/// The nearest word and how far it is, the first of those that are equally far.
-fn nearest<'a>(word: &str, known: &[&'a str]) -> Option<(usize, &'a str)> {
-    let distances = known.iter().map(|other| (slips(word, other), *other));
-    distances.min_by_key(|(distance, _)| *distance)
+/// The word of the language that another is meant for, if one is near: at most a third of its letters
+/// are slips. What is farther from it is rather a name.
+pub(super) fn meant<'a>(word: &str, known: &[&'a str]) -> Option<&'a str> {
+    nearest(word, known, 3)
+}
+
+/// The nearest word, the first of those that are equally far, if at most this part of it is slips.
+/// Words of very different lengths are not compared: the difference alone is too many slips.
+fn nearest<'a>(word: &str, known: &[&'a str], part: usize) -> Option<&'a str> {
+    let length = word.chars().count();
+    let within = |slips: usize, other: &str| part * slips <= length.max(other.chars().count());
+    let similar = |other: &&&str| within(length.abs_diff(other.chars().count()), other);
+    let distances = known.iter().filter(similar);
+    let distances = distances.map(|other| (slips(word, other), *other));
+    let (distance, nearest) = distances.min_by_key(|(distance, _)| *distance)?;
+    within(distance, nearest).then_some(nearest)
 }
 
 /// How many letters must be put in, left out, changed or exchanged with the next to make one word of
@@ -68,5 +78,15 @@ mod tests {
         assert_eq!(near("trakcing", &["splits", "tracking"]), Some("tracking"));
         assert_eq!(near("camera", &["gps", "wifi"]), None);
         assert_eq!(near("gps", &[]), None);
+        assert_eq!(near("track", &["tracking"]), Some("tracking"));
+        assert_eq!(near(&"7".repeat(1_000_000), &["7"]), None);
+    }
+
+    #[test]
+    fn a_word_of_the_language_is_meant_only_by_one_that_is_close_to_it() {
+        assert_eq!(meant("Hots", &["then", "host"]), Some("host"));
+        assert_eq!(meant("reqest", &["requests"]), Some("requests"));
+        assert_eq!(meant("requires", &["requests"]), None);
+        assert_eq!(meant("coast", &["host"]), None);
     }
 }

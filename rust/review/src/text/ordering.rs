@@ -1,10 +1,10 @@
 //! The order of importance that a text states: begun once, gone on with by "then", and whole.
 
-use super::declared::Known;
+use super::declared::{some_of, Known};
 use super::mistake::Mistakes;
 use super::places::{Name, Place};
 use super::statement::Statement;
-use crate::names::{listed, written};
+use crate::names::written;
 
 /// The requests, most important first. Where nothing is said of it, the order is that in which the
 /// plug-ins are declared.
@@ -15,6 +15,9 @@ pub(super) fn order(statements: &[Statement], known: &Known, mistakes: &mut Mist
     };
     let mut order = Vec::new();
     for name in names {
+        if mistakes.are_enough() {
+            break;
+        }
         match known.plug_in(name) {
             Err(mistake) => mistakes.add(mistake),
             Ok(number) if order.contains(&(number + 1)) => {
@@ -27,10 +30,10 @@ pub(super) fn order(statements: &[Statement], known: &Known, mistakes: &mut Mist
     let left_out: Vec<String> = (1..)
         .zip(plug_ins)
         .filter(|(request, _)| !order.contains(request))
-        .map(|(_, name)| written(&name))
+        .map(|(_, name)| name)
         .collect();
     if !left_out.is_empty() {
-        let words = format!("the order leaves out {}", listed(&left_out));
+        let words = format!("the order leaves out {}", some_of(&left_out));
         mistakes.add(place.mistake(words));
     }
     order

@@ -2,7 +2,7 @@
 
 use super::declared::Known;
 use super::mistake::{Mistake, Mistakes};
-use super::places::{Name, Number, Place};
+use super::places::{shown, Name, Number, Place};
 use super::statement::{StatedCondition, StatedRow, Statement};
 use crate::event::EventRow;
 use crate::names::{ordinal, written};
@@ -104,10 +104,8 @@ fn within(number: &Number, limits: RangeInclusive<i32>, what: &str) -> Result<i3
     let value = i32::try_from(number.value).ok();
     value.filter(|value| limits.contains(value)).ok_or_else(|| {
         let (least, most) = (limits.start(), limits.end());
-        let words = format!(
-            "{} is out of range: {what} is {least} to {most}",
-            number.written
-        );
+        let written = shown("number", &number.written, number.written.clone());
+        let words = format!("{written} is out of range: {what} is {least} to {most}");
         number.place.mistake(words)
     })
 }

@@ -5,6 +5,7 @@ use super::cursor::Cursor;
 use super::mistake::Mistake;
 use super::places::{Name, Number, Place};
 use super::tokens::Line;
+use crate::names::written;
 
 /// What a line states.
 #[derive(Clone, Debug)]
@@ -49,7 +50,9 @@ impl StatedCondition {
     pub fn expected_after(&self) -> &'static str {
         match self {
             StatedCondition::Clause(literals) if literals.is_empty() => "the end of the line",
-            StatedCondition::Clause(_) => "\"or\", or the end of the line",
+            StatedCondition::Clause(_) => {
+                "\"or\", or the end of the line (a further row has a line of its own)"
+            }
             StatedCondition::Budget { terms, .. } if terms.is_empty() => "the end of the line",
             StatedCondition::Budget { .. } => {
                 "a comma and what a further variable takes, or the end of the line"
@@ -69,6 +72,9 @@ const BEGINNINGS: [&str; 8] = [
     "variable",
     "plug-in",
 ];
+
+/// What is said where a number seems to be written with commas.
+const NO_COMMAS: &str = "a number is written without commas";
 
 /// The statement of a line, if it has one.
 pub(super) fn statement(line: &Line) -> Result<Option<Statement>, Mistake> {
@@ -115,7 +121,7 @@ fn row_of_host(words: &mut Cursor, place: Place) -> Result<StatedRow, Mistake> {
                 let expected = "a variable's name (\"host allows at most\" begins a budget)";
                 return Err(words.expected(expected));
             }
-            clause(words)?
+            clause(words, "a variable's name or \"the impossible\"")?
         }
         _ => return Err(words.expected("\"allows\" or \"requires\" after \"host\"")),
     };
@@ -128,16 +134,21 @@ fn row_of_host(words: &mut Cursor, place: Place) -> Result<StatedRow, Mistake> {
 
 /// What begins with the name of a plug-in.
 fn row_of_plug_in(words: &mut Cursor, place: Place) -> Result<StatedRow, Mistake> {
-    if let (Some(word), false) = (words.bare(), words.second_is_near("requests")) {
+    if let (Some(word), false) = (words.bare(), words.has_later("requests")) {
         if let Some(mistake) = words.misspelt(word, &BEGINNINGS) {
             return Err(mistake);
         }
     }
     let name = words.name("a statement: event, variables, plug-ins, host, most important first, then, or a plug-in's name before \"requests\"")?;
-    words.word("requests", "\"requests\" after the name of a plug-in")?;
+    let taken = written(&name.name);
+    let expected = format!("\"requests\" after {taken}, taken for the name of a plug-in");
+    words.word_after_name("requests", &expected)?;
     let condition = match words.bare() {
         Some("at") => budget(words.skip())?,
-        _ => clause(words)?,
+        _ => clause(
+            words,
+            "a variable's name, \"at most\" or \"the impossible\"",
+        )?,
     };
     Ok(StatedRow {
         place,
@@ -154,46 +165,77 @@ fn budget(words: &mut Cursor) -> Result<StatedCondition, Mistake> {
         Some("of") => Some(words.skip().name("what the budget is of")?),
         _ => None,
     };
-    words.colon(match name {
-        Some(_) => "a colon, and what each variable takes",
-        None => "\"of\" and a name, or a colon, and what each variable takes",
-    })?;
+    colon(words, name.is_some())?;
+    let mut terms = Vec::new();
     if words.bare() == Some("nothing") {
         words.skip();
-        let terms = Vec::new();
         return Ok(StatedCondition::Budget { bound, name, terms });
     }
-    let mut terms = Vec::new();
-    loop {
-        let variable = words.name("a variable's name, or \"nothing\"")?;
-        words.word("takes", "\"takes\" after a variable's name")?;
-        terms.push((variable, words.number("how much it takes")?));
-        if !words.comma() {
-            return Ok(StatedCondition::Budget { bound, name, terms });
-        }
+    terms.push(term(words, "a variable's name, or \"nothing\"")?);
+    while words.comma() {
+        terms.push(further_term(words)?);
+    }
+    Ok(StatedCondition::Budget { bound, name, terms })
+}
+
+/// The colon of a budget, which may have a name before it.
+fn colon(words: &mut Cursor, named: bool) -> Result<(), Mistake> {
+    let expected = match named {
+        true => "a colon, and what each variable takes",
+        false => "\"of\" and a name, or a colon, and what each variable takes",
+    };
+    match (words.colon(expected), named) {
+        (Ok(()), _) => Ok(()),
+        (Err(_), true) => Err(words.expected_after_name(expected, &[":"])),
+        (Err(mistake), false) if words.comma() => Err(mistake.with(NO_COMMAS)),
+        (Err(mistake), false) => Err(mistake),
     }
 }
 
-/// A clause.
-fn clause(words: &mut Cursor) -> Result<StatedCondition, Mistake> {
+/// What a variable takes of a budget.
+fn term(words: &mut Cursor, expected: &str) -> Result<(Name, Number), Mistake> {
+    let variable = words.name(expected)?;
+    words.word_after_name("takes", "\"takes\" after a variable's name")?;
+    Ok((variable, words.number("how much it takes")?))
+}
+
+/// What a further variable takes, after a comma; digits alone may be the rest of a number.
+fn further_term(words: &mut Cursor) -> Result<(Name, Number), Mistake> {
+    let digits = |word: &str| word.bytes().all(|digit| digit.is_ascii_digit());
+    let rest_of_a_number = words.bare().is_some_and(digits) && !words.has_second("takes");
+    let term = term(words, "a variable's name");
+    term.map_err(|mistake| match rest_of_a_number {
+        true => mistake.with(NO_COMMAS),
+        false => mistake,
+    })
+}
+
+/// A clause, of which something is expected first.
+fn clause(words: &mut Cursor, first: &str) -> Result<StatedCondition, Mistake> {
     if words.bare() == Some("the") {
         words
             .skip()
             .word("impossible", "\"impossible\" after \"the\"")?;
         return Ok(StatedCondition::Clause(Vec::new()));
     }
-    let mut literals = Vec::new();
-    loop {
-        let variable = words.name("a variable's name, \"at most\" or \"the impossible\"")?;
-        let on = match words.bare() {
-            Some("on") => true,
-            Some("off") => false,
-            _ => return Err(words.expected("\"on\" or \"off\" after a variable's name")),
-        };
-        literals.push((variable, on));
-        if words.skip().bare() != Some("or") {
-            return Ok(StatedCondition::Clause(literals));
-        }
-        words.skip();
+    let mut literals = vec![literal(words, first)?];
+    while words.bare() == Some("or") {
+        literals.push(literal(words.skip(), "a variable's name")?);
     }
+    Ok(StatedCondition::Clause(literals))
+}
+
+/// A variable that is to be on (true) or off.
+fn literal(words: &mut Cursor, expected: &str) -> Result<(Name, bool), Mistake> {
+    let variable = words.name(expected)?;
+    let on = match words.bare() {
+        Some("on") => true,
+        Some("off") => false,
+        _ => {
+            let expected = "\"on\" or \"off\" after a variable's name";
+            return Err(words.expected_after_name(expected, &["on", "off"]));
+        }
+    };
+    words.skip();
+    Ok((variable, on))
 }

@@ -3,7 +3,8 @@
 
 use super::mistake::Mistake;
 use super::places::Place;
-use crate::names::{may_stand_in_a_name, MARKS, MOST_NAME};
+use super::MOST_WORDS;
+use crate::names::{may_stand_in_a_name, ordinal, MARKS};
 
 /// What stands at a place of a line.
 #[derive(Clone, Debug, PartialEq, Eq)]
@@ -42,6 +43,11 @@ pub(super) fn tokens(line: usize, text: &str) -> Result<Line, Mistake> {
             index += 1;
             continue;
         }
+        if tokens.len() == MOST_WORDS {
+            let number = ordinal(MOST_WORDS + 1);
+            let words = format!("the {number} word of a line, at most {MOST_WORDS}");
+            return Err(place(index).mistake(words));
+        }
         let (token, length) = token(&letters[index..], place(index))?;
         tokens.push((token, place(index)));
         index += length;
@@ -60,35 +66,28 @@ fn token(letters: &[char], place: Place) -> Result<(Token, usize), Mistake> {
         _ => {
             let ends = |letter: &char| letter.is_whitespace() || MARKS.contains(letter);
             let length = letters.iter().position(ends).unwrap_or(letters.len());
-            let word: String = letters[..length].iter().collect();
-            Ok((Token::Bare(short_enough(word, length, place)?), length))
+            Ok((Token::Bare(letters[..length].iter().collect()), length))
         }
     }
 }
 
-/// A name in quotes, the first letter being the quote. A backslash takes the next letter as it is.
+/// A name in quotes, the first letter being the quote.
 fn quoted(letters: &[char], place: Place) -> Result<(Token, usize), Mistake> {
     let mut name = String::new();
     let mut index = 1;
     while let Some(letter) = letters.get(index) {
-        let taken = match letter {
-            '"' => {
-                let length = name.chars().count();
-                let name = short_enough(name, length, place)?;
-                return match name.trim() == name && !name.is_empty() {
-                    true => Ok((Token::Quoted(name), index + 1)),
-                    false => Err(place.mistake(no_name())),
-                };
+        let escaped = *letter == '\\';
+        match (letter, letters.get(index + 1)) {
+            ('"', _) if name.trim() != name || name.is_empty() => {
+                return Err(place.mistake(no_name()))
             }
-            '\\' => {
-                index += 1;
-                letters.get(index)
-            }
-            '\t' => return Err(place.mistake("a tab cannot stand in a name".to_string())),
-            _ => Some(letter),
-        };
-        name.extend(taken);
-        index += 1;
+            ('"', _) => return Ok((Token::Quoted(name), index + 1)),
+            ('\\', Some(marked @ ('"' | '\\'))) => name.push(*marked),
+            ('\\', Some(_)) => return Err(place.after(index).mistake(no_mark())),
+            ('\t', _) => return Err(place.after(index).mistake(no_tab())),
+            _ => name.push(*letter),
+        }
+        index += 1 + usize::from(escaped);
     }
     Err(place.mistake("expected a quote that ends the name, found the end of the line".to_string()))
 }
@@ -98,11 +97,10 @@ fn no_name() -> String {
         .to_string()
 }
 
-/// A word that is no longer than a name may be.
-fn short_enough(word: String, length: usize, place: Place) -> Result<String, Mistake> {
-    if length > MOST_NAME {
-        let words = format!("a name of {length} characters, at most {MOST_NAME}");
-        return Err(place.mistake(words));
-    }
-    Ok(word)
+fn no_mark() -> String {
+    "a backslash in quotes stands before a quote or another backslash: \\\" or \\\\".to_string()
+}
+
+fn no_tab() -> String {
+    "a tab cannot stand in a name".to_string()
 }
