@@ -10,8 +10,6 @@ use review::event::{Event, EventRow};
 use review::input::{self, NoEvent};
 use review::text;
 use std::collections::BTreeSet;
-use std::fs;
-use std::path::Path;
 
 /// The event of an accepted table, which goes to a text and comes back.
 fn there_and_back(name: &str, table: &[u8]) -> Event {
@@ -134,20 +132,10 @@ fn the_longest_and_the_hardest_tables_come_back() {
 }
 
 #[test]
-fn the_sample_sheet_and_the_sample_events_come_back() {
+fn the_sample_sheet_comes_back() {
     for row in sheet::sheet() {
         there_and_back(row.name, &row.plan.table());
     }
-    let folder = Path::new(env!("CARGO_MANIFEST_DIR")).join("../../samples/events");
-    let mut found = 0;
-    for file in fs::read_dir(folder).unwrap() {
-        let path = file.unwrap().path();
-        let name = path.display().to_string();
-        let event = input::event(&fs::read(path).unwrap()).unwrap();
-        assert_same_from_its_text(&name, &event);
-        found += 1;
-    }
-    assert!(found >= 3, "only {found} sample events");
 }
 
 #[test]

@@ -101,11 +101,12 @@ fn a_refused_table_tells_its_reason_place_and_record() {
 #[test]
 fn each_mistake_of_a_text_is_a_line() {
     assert_eq!(
-        said(b"variables a,\nplug-in b c"),
+        said(b"variables a,\nhost\n"),
         [
-            "some.event: line 1, column 13: expected a variable's name, found the end of the line",
-            "some.event: line 2, column 11: expected a comma and a further name, \
-             or the end of the line, found c",
+            "some.event: line 1, column 13: expected a variable's name, \
+             found the end of the line; a statement stands on one line",
+            "some.event: line 2, column 5: expected \"allows\" or \"requires\" after \"host\", \
+             found the end of the line",
         ]
     );
     let many = "wrong\n".repeat(30);

@@ -132,7 +132,7 @@ impl Shown<'_> {
         };
         let (rank, claimant) = match claim.claimant {
             Claimant::Host => ("–".to_string(), Html::text("the host")),
-            plug_in => (self.key(plug_in), Html::name(&self.name(plug_in))),
+            plug_in => (self.key(plug_in), Html::name(self.name(plug_in))),
         };
         row(vec![
             Cell::classed("number", Html::text(&rank)),

@@ -61,7 +61,7 @@ fn table(told: &Told, columns: &[Column]) -> Html {
     let rows = told.plug_ins.iter().map(|plug_in| {
         let mut cells = vec![
             Cell::classed("number", Html::text(&plug_in.rank.to_string())),
-            Cell::heading(Html::name(&plug_in.name)),
+            Cell::heading(Html::name(plug_in.name)),
         ];
         cells.extend(columns.iter().map(|column| column.cell(plug_in)));
         row(cells)

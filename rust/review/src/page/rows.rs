@@ -34,7 +34,7 @@ pub fn plug_in_rows(event: &Event, told: &Told) -> Html {
 fn requests_of(event: &Event, plug_in: &PlugIn) -> Html {
     let rank = Html::text(&plug_in.rank.to_string());
     let rank = Html::element("span", &[("class", "rank")], rank);
-    let name = Html::element("dt", &[], rank.say(" ").and(Html::name(&plug_in.name)));
+    let name = Html::element("dt", &[], rank.say(" ").and(Html::name(plug_in.name)));
     let rows = words_of(event, plug_in.request);
     let rows = match rows.is_empty() {
         true => vec![Html::text(

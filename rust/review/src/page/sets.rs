@@ -52,7 +52,7 @@ fn left_out(told: &Told) -> Html {
     if left_out.is_empty() {
         return words("Nothing is left out.");
     }
-    let names = left_out.iter().map(|plug_in| Html::name(&plug_in.name));
+    let names = left_out.iter().map(|plug_in| Html::name(plug_in.name));
     let names = Html::listed(names.collect());
     paragraph(Html::text("Left out: ").and(names).say("."))
 }
@@ -62,7 +62,7 @@ fn list(told: &Told, requests: &[u16]) -> Html {
     let items = told.those_of(requests).into_iter().map(|plug_in| {
         let rank = Html::text(&plug_in.rank.to_string());
         let rank = Html::element("span", &[("class", "rank")], rank);
-        let name = Html::name(&plug_in.name);
+        let name = Html::name(plug_in.name);
         Html::element("li", &[], rank.say(" ").and(name))
     });
     let class = match requests.len() {

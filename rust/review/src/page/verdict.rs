@@ -31,7 +31,7 @@ fn verdict(told: &Told) -> Html {
 /// Some plug-ins cannot.
 fn conflict(told: &Told) -> Html {
     let members = told.those_of(&told.conflict.requests);
-    let names = members.iter().map(|plug_in| Html::name(&plug_in.name));
+    let names = members.iter().map(|plug_in| Html::name(plug_in.name));
     let names = Html::listed(names.collect());
     match members.len() {
         1 => Html::text("The plug-in ")

@@ -3,6 +3,7 @@
 use crate::{accepted, mistakes, shown};
 use review::input::{self, NoEvent};
 use review::text;
+use std::ffi::OsStr;
 use std::fs;
 use std::path::Path;
 
@@ -174,7 +175,11 @@ fn a_sample_event_cut_at_any_byte_is_an_event_or_has_mistakes_at_its_places() {
     let folder = Path::new(env!("CARGO_MANIFEST_DIR")).join("../../samples/events");
     let (mut whole, mut wrong) = (0, 0);
     for file in fs::read_dir(folder).unwrap() {
-        let bytes = fs::read(file.unwrap().path()).unwrap();
+        let path = file.unwrap().path();
+        if path.extension() != Some(OsStr::new("event")) {
+            continue;
+        }
+        let bytes = fs::read(path).unwrap();
         for length in 0..bytes.len() {
             match text::read(&bytes[..length]) {
                 Ok(_) => whole += 1,

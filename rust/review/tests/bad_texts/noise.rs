@@ -1,24 +1,17 @@
-//! Texts that are noise, a megabyte of it: each ends soon, with a mistake.
+//! Texts that are noise, a megabyte of it: each gets a mistake, and nothing panics.
 
 use crate::mistakes;
 use made::random::Random;
 use review::names::RESERVED;
-use std::time::{Duration, Instant};
 
 /// How much noise there is, in bytes or a little more.
 const LENGTH: usize = 1_000_000;
 
-/// How long one text may take; without optimization everything takes longer.
-const SOON: Duration = Duration::from_secs(if cfg!(debug_assertions) { 60 } else { 2 });
-
-/// Noise gets a mistake, soon.
-fn assert_ends_soon(name: &str, noise: impl AsRef<[u8]>) {
+/// Noise gets a mistake.
+fn assert_mistaken(name: &str, noise: impl AsRef<[u8]>) {
     let noise = noise.as_ref();
-    let begun = Instant::now();
     let found = mistakes(noise);
-    let taken = begun.elapsed();
-    println!("{name}: {} bytes, {taken:?}: {}", noise.len(), found[0]);
-    assert!(taken < SOON, "{name} took {taken:?}");
+    println!("{name}: {} bytes: {}", noise.len(), found[0]);
 }
 
 /// Text of made parts, until it is long enough.
@@ -55,20 +48,20 @@ fn word(random: &mut Random) -> String {
 #[test]
 fn random_bytes_letters_and_words() {
     for seed in 0..4 {
-        assert_ends_soon("bytes", Random::new(seed).bytes(LENGTH));
+        assert_mistaken("bytes", Random::new(seed).bytes(LENGTH));
         let ascii = |random: &mut Random| char::from(32 + random.below(95) as u8).to_string();
-        assert_ends_soon("printable ASCII on one line", made(seed, ascii));
+        assert_mistaken("printable ASCII on one line", made(seed, ascii));
         let lines = |random: &mut Random| match random.chance(1, 40) {
             true => "\n".to_string(),
             false => ascii(random),
         };
-        assert_ends_soon("printable ASCII on lines", made(seed, lines));
+        assert_mistaken("printable ASCII on lines", made(seed, lines));
         let unicode = |random: &mut Random| {
             let letter = char::from_u32(random.below(0x11_0000) as u32);
             letter.unwrap_or('\n').to_string()
         };
-        assert_ends_soon("Unicode", made(seed, unicode));
-        assert_ends_soon("words of the language", made(seed, word));
+        assert_mistaken("Unicode", made(seed, unicode));
+        assert_mistaken("words of the language", made(seed, word));
     }
 }
 
@@ -115,7 +108,7 @@ const REPEATED: &[(&str, &str, &str)] = &[
 fn one_thing_a_million_times() {
     for (name, begin, part) in REPEATED {
         let repeated = part.repeat(LENGTH / part.len());
-        assert_ends_soon(name, format!("{begin}{repeated}"));
+        assert_mistaken(name, format!("{begin}{repeated}"));
     }
 }
 
@@ -128,15 +121,14 @@ fn a_megabyte_of_names_that_are_unknown() {
     let names = vec![unknown.as_str(); 400].join(", ");
     let then = format!("then: {names}\n").repeat(LENGTH / names.len());
     let order = format!("{declared}most important first: {names}\n{then}");
-    assert_ends_soon("in the order", order);
+    assert_mistaken("in the order", order);
     let literals = vec![format!("{unknown} on"); 60].join(" or ");
     let row = format!("{} requests {literals}\n", &known[..80]);
-    assert_ends_soon("in rows", declared + &row.repeat(LENGTH / row.len()));
+    assert_mistaken("in rows", declared + &row.repeat(LENGTH / row.len()));
 }
 
 #[test]
 fn empty_lines_and_comments_say_nothing_however_many_there_are() {
-    let begun = Instant::now();
     for nothing in [
         "\n",
         "\r\n",
@@ -152,5 +144,4 @@ fn empty_lines_and_comments_say_nothing_however_many_there_are() {
         let wrong = mistakes((text.clone() + "\n,").as_bytes());
         assert_eq!(wrong[0].line, 2 + text.matches('\n').count());
     }
-    assert!(begun.elapsed() < 14 * SOON);
 }
