@@ -48,16 +48,16 @@ pub fn given(event: &Event, budget: &Budget, claims: &Claims) -> Html {
     let parts: Vec<Html> = gives.map(part).collect();
     let where_on = match parts.len() {
         0 => return Html::nothing(),
-        1 => " where it is on",
-        _ => ", each where it is on",
+        1 => " where it is on.",
+        _ => ", each where it is on.",
     };
-    let counted = ", which is counted as room for it and as taken where it is off.";
+    let counted = " The bars count this as room, and as taken where off is requested.";
     let limit = format!(
         " So the host's limit of {} stands at {}.",
         budget.bound, claims.room
     );
-    let sentence = Html::listed(parts).say(where_on).say(counted).say(&limit);
-    paragraph(sentence)
+    let sentences = Html::listed(parts).say(where_on).say(counted).say(&limit);
+    paragraph(sentences)
 }
 
 /// Words with a capital at their start.

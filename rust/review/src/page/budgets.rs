@@ -146,7 +146,7 @@ impl Shown<'_> {
     fn sharer(&self, claimant: Claimant) -> String {
         match claimant {
             Claimant::Host => "the host".to_string(),
-            plug_in => self.key(plug_in),
+            plug_in => format!("rank {}", self.key(plug_in)),
         }
     }
 

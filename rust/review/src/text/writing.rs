@@ -2,8 +2,7 @@
 
 use crate::event::{Event, EventRow};
 use crate::names::written;
-use crate::row_words::row_words;
-use hainscope::Condition;
+use crate::row_words::{row_words, verb};
 
 /// The text of an event.
 pub fn write(event: &Event) -> String {
@@ -51,10 +50,9 @@ fn all_written(names: impl Iterator<Item = impl AsRef<str>>) -> String {
 
 /// A row as a statement.
 fn statement(event: &Event, row: &EventRow) -> String {
-    let condition = row_words(event, row);
-    match (row.row.role, &row.row.condition) {
-        (0, Condition::Clause(_)) => format!("host requires {condition}"),
-        (0, Condition::Linear { .. }) => format!("host allows {condition}"),
-        (request, _) => format!("{} requests {condition}", written(event.plug_in(request))),
-    }
+    let owner = match row.row.role {
+        0 => "host".to_string(),
+        request => written(event.plug_in(request)),
+    };
+    format!("{owner} {} {}", verb(row), row_words(event, row))
 }
