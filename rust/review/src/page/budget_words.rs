@@ -28,9 +28,9 @@ pub fn unclaimed(event: &Event, claims: &Claims) -> Html {
         _ => "them",
     };
     let part = |taking: &Taking| {
-        let state = on_or_off(taking.setting.on);
+        let state = on_or_off(taking.state.on);
         let takes = format!(" {state} takes {}", taking.amount);
-        Html::name(event.variable(taking.setting.variable)).say(&takes)
+        Html::name(event.variable(taking.state.variable)).say(&takes)
     };
     let parts = Html::listed(claims.unclaimed.iter().map(part).collect());
     let words = format!("Not counted, since nobody requests {them} outright: ");
@@ -40,9 +40,9 @@ pub fn unclaimed(event: &Event, claims: &Claims) -> Html {
 /// What gives something to the budget, and how that is counted.
 pub fn given(event: &Event, budget: &Budget, claims: &Claims) -> Html {
     let takings = takings(budget.terms);
-    let gives = takings.iter().filter(|taking| !taking.setting.on);
+    let gives = takings.iter().filter(|taking| !taking.state.on);
     let part = |taking: &Taking| {
-        let name = Html::name(event.variable(taking.setting.variable));
+        let name = Html::name(event.variable(taking.state.variable));
         name.say(&format!(" gives {}", taking.amount))
     };
     let parts: Vec<Html> = gives.map(part).collect();

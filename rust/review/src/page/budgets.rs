@@ -123,9 +123,9 @@ impl Shown<'_> {
 
     /// A claim as a row of the table.
     fn claim(&self, claim: &Claim) -> Html {
-        let setting = claim.taking.setting;
-        let variable = self.event.variable(setting.variable);
-        let requested = Html::name(variable).say(&format!(" {}", on_or_off(setting.on)));
+        let state = claim.taking.state;
+        let variable = self.event.variable(state.variable);
+        let requested = Html::name(variable).say(&format!(" {}", on_or_off(state.on)));
         let takes = match claim.shared_with {
             None => Html::text(&claim.taking.amount.to_string()),
             Some(other) => Html::text(&format!("shared with {}", self.sharer(other))),

@@ -32,9 +32,7 @@ pub fn plug_in_rows(event: &Event, told: &Told) -> Html {
 
 /// A plug-in and its rows.
 fn requests_of(event: &Event, plug_in: &PlugIn) -> Html {
-    let rank = Html::text(&plug_in.rank.to_string());
-    let rank = Html::element("span", &[("class", "rank")], rank);
-    let name = Html::element("dt", &[], rank.say(" ").and(Html::name(plug_in.name)));
+    let name = Html::element("dt", &[], plug_in.ranked());
     let rows = rows_of(event, plug_in.request).map(|row| words(event, row));
     let mut rows: Vec<Html> = rows.collect();
     if rows.is_empty() {

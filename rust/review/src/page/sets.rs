@@ -59,12 +59,8 @@ fn left_out(told: &Told) -> Html {
 
 /// The plug-ins of some requests, each with its rank.
 fn list(told: &Told, requests: &[u16]) -> Html {
-    let items = told.those_of(requests).into_iter().map(|plug_in| {
-        let rank = Html::text(&plug_in.rank.to_string());
-        let rank = Html::element("span", &[("class", "rank")], rank);
-        let name = Html::name(plug_in.name);
-        Html::element("li", &[], rank.say(" ").and(name))
-    });
+    let plug_ins = told.those_of(requests).into_iter();
+    let items = plug_ins.map(|plug_in| Html::element("li", &[], plug_in.ranked()));
     let class = match requests.len() {
         0..=FEW => "set",
         _ => "set many",
