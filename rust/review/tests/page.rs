@@ -38,7 +38,7 @@ fn the_accident_is_seen_at_a_glance() {
     assert_eq!(classed(&page, "verdict"), [verdict]);
     says(
         &page,
-        "Each of them is needed for the failure: without any one of them, the others can stand.",
+        "Each of them is needed for the failure: without any one of them, the rest of them can stand.",
     );
     says(&page, "Left out: Finish photos.");
     says(&page, "6 questions asked.");
