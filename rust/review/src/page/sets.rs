@@ -1,7 +1,8 @@
 //! The two sets of an answer: the conflict and the best set, each with what it means and how many
 //! questions were asked for it.
 
-use crate::page::document::{counted, paragraph, section};
+use crate::names::counted;
+use crate::page::document::{paragraph, section};
 use crate::page::html::Html;
 use crate::page::told::Told;
 use crate::sentences::needed;
@@ -71,7 +72,7 @@ fn list(told: &Told, requests: &[u16]) -> Html {
 /// How many questions were asked for a report.
 fn questions(report: &Report) -> Html {
     let number = usize::try_from(report.count).unwrap_or(usize::MAX);
-    let asked = format!("{} asked.", counted(number, "question", "questions"));
+    let asked = format!("{} asked.", counted(number, "question"));
     Html::element("p", &[("class", "quiet")], Html::text(&asked))
 }
 

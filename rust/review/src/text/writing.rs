@@ -1,7 +1,7 @@
 //! An event written as a text, which is read back as the same event.
 
 use crate::event::{Event, EventRow};
-use crate::names::written;
+use crate::names::{counted, written};
 use crate::row_words::{row_words, verb};
 
 /// The text of an event.
@@ -30,15 +30,11 @@ pub fn write(event: &Event) -> String {
 
 /// A comment that tells the sizes, so that no text is empty.
 fn heading(event: &Event) -> String {
-    let number = |number: usize, thing: &str| match number {
-        1 => format!("1 {thing}"),
-        _ => format!("{number} {thing}s"),
-    };
     format!(
         "# {}, {}, {}",
-        number(event.variables.len(), "variable"),
-        number(event.plug_ins.len(), "plug-in"),
-        number(event.rows.len(), "row")
+        counted(event.variables.len(), "variable"),
+        counted(event.plug_ins.len(), "plug-in"),
+        counted(event.rows.len(), "row")
     )
 }
 
