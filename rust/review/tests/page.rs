@@ -197,6 +197,14 @@ fn what_gives_and_what_nobody_requests_is_explained() {
 }
 
 #[test]
+fn a_limit_close_below_nothing_has_the_only_number() {
+    let event = shapes::budget(shapes::accident(), 0, "", -10, &[(0, 400)]);
+    let page = read(&event);
+    says(&page, "400 claimed of -10: 410 too many");
+    assert_eq!(classed(&page, "nothing"), [""]);
+}
+
+#[test]
 fn a_request_that_several_make_counts_once() {
     let page = read(&shapes::shared());
     let rows = texts(&page, "tr");
