@@ -136,6 +136,15 @@ const layout = {
 
   'what is beyond the limit begins at its line': (page) => all(page, 'figure').flatMap(wrongLimit),
 
+  'no words of a bar stand on others': (page) =>
+    all(page, 'svg.bar').flatMap((svg) => {
+      const texts = all(svg, 'text').map((text) => [text, box(text)]);
+      const meet = (one, other) =>
+        one.left < other.right && other.left < one.right && one.top < other.bottom && other.top < one.bottom;
+      const covered = ([, own], place) => texts.some(([, other], before) => before < place && meet(own, other));
+      return texts.filter(covered).map(([text]) => text.outerHTML);
+    }),
+
   'no key stands on a line': (page) =>
     all(page, 'svg.bar').flatMap((svg) => {
       const lines = all(svg, 'line');

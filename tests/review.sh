@@ -80,6 +80,7 @@ expect 'no event' 2 '' "$usage" ./hainscope-review explain
 expect 'two events' 2 '' "$usage" ./hainscope-review explain "$accident" "$accident"
 expect 'an option of another command' 2 '' "$usage" ./hainscope-review page --json "$accident"
 expect 'a missing file' 2 '' 'none.event cannot be read' ./hainscope-review explain none.event
+expect 'a name that a terminal would obey' 2 '' $'none\xef\xbf\xbd[2J.event cannot be read' ./hainscope-review explain $'none\e[2J.event'
 expect 'a folder' 2 '' 'samples cannot be read' ./hainscope-review explain samples
 expect 'an input without end' 2 '' 'more than 16 MiB' ./hainscope-review explain /dev/zero
 expect 'a closed input' 2 '' 'standard input is closed' without_input ./hainscope-review explain -

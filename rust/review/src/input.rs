@@ -1,6 +1,7 @@
 //! The bytes of an event, from a file or standard input, and telling a text from a table.
 
 use crate::event::{read_table, Event};
+use crate::names::may_stand_in_a_name;
 use crate::text::{self, Mistakes};
 use hainscope::Refusal;
 use std::fs::File;
@@ -20,10 +21,12 @@ pub enum Source {
 }
 
 impl Source {
-    /// Its name in a message.
+    /// Its name in a message. A file may be named by somebody else than who reads that: what a terminal
+    /// would obey, or nobody would see, becomes the mark for what cannot be shown.
     pub fn name(&self) -> String {
+        let hidden = |letter: char| !may_stand_in_a_name(letter);
         match self {
-            Source::File(path) => path.display().to_string(),
+            Source::File(path) => path.display().to_string().replace(hidden, "\u{fffd}"),
             Source::StandardInput => "standard input".to_string(),
         }
     }
@@ -77,4 +80,23 @@ pub fn is_table(bytes: &[u8]) -> bool {
     let no_letter = |byte: &u8| byte.is_ascii_control() && !byte.is_ascii_whitespace();
     let begins_as_one = || bytes.iter().take(4).any(no_letter) && !text::is_utf_16(bytes);
     bytes.is_empty() || begins_as_one()
+}
+
+#[cfg(test)]
+mod tests {
+    use super::Source;
+
+    #[test]
+    fn a_message_tells_no_more_of_a_file_s_name_than_can_be_shown() {
+        for (name, told) in [
+            ("my events/Zürich 5.event", "my events/Zürich 5.event"),
+            (
+                "a\u{1b}[2J\u{9b}31m\nb\r.event",
+                "a\u{fffd}[2J\u{fffd}31m\u{fffd}b\u{fffd}.event",
+            ),
+            ("tneve\u{202e}.txt", "tneve\u{fffd}.txt"),
+        ] {
+            assert_eq!(Source::File(name.into()).name(), told);
+        }
+    }
 }

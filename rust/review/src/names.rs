@@ -1,4 +1,5 @@
-//! Names: how one stands in a text, bare or in quotes, and how several are told in a sentence.
+//! Names: how one stands in a text, bare or in quotes, and how several are told in a sentence; and
+//! numbers in words.
 
 /// The most characters of a name.
 pub const MOST_NAME: usize = 80;
@@ -53,6 +54,14 @@ pub fn listed(names: &[String]) -> String {
         None => String::new(),
         Some((only, [])) => only.clone(),
         Some((last, others)) => format!("{} and {last}", others.join(", ")),
+    }
+}
+
+/// A number of things: "1 question", "8 questions".
+pub fn counted(number: usize, thing: &str) -> String {
+    match number {
+        1 => format!("1 {thing}"),
+        _ => format!("{number} {thing}s"),
     }
 }
 

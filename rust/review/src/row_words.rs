@@ -14,6 +14,15 @@ pub enum Piece {
     Name(String),
 }
 
+/// What its owner does with a row: the host allows budgets and requires clauses, a plug-in requests both.
+pub fn verb(EventRow { row, .. }: &EventRow) -> &'static str {
+    match (row.role, &row.condition) {
+        (0, Condition::Clause(_)) => "requires",
+        (0, Condition::Linear { .. }) => "allows",
+        _ => "requests",
+    }
+}
+
 /// What a row asks.
 pub fn row_words(event: &Event, row: &EventRow) -> String {
     let text = |piece| match piece {

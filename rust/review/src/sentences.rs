@@ -19,7 +19,7 @@ pub fn needed(plug_ins: usize) -> &'static str {
         1 => "It is needed for the failure: without it, the host's rows can stand.",
         2 => "Each of them is needed for the failure: either can stand without the other.",
         _ => {
-            "Each of them is needed for the failure: without any one of them, the others can stand."
+            "Each of them is needed for the failure: without any one of them, the rest of them can stand."
         }
     }
 }

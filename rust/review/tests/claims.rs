@@ -20,8 +20,8 @@ fn claims_of(event: &Event, requests: &[u16]) -> Claims {
 fn counted(claims: &Claims) -> Vec<(Claimant, u16, bool, i64)> {
     let tell = |claim: &review::page::claims::Claim| {
         let taking = claim.taking;
-        let setting = taking.setting;
-        (claim.claimant, setting.variable, setting.on, taking.amount)
+        let state = taking.state;
+        (claim.claimant, state.variable, state.on, taking.amount)
     };
     claims.counted().map(tell).collect()
 }
@@ -64,7 +64,7 @@ fn what_gives_is_room_and_is_taken_where_it_is_off() {
     assert_eq!(claims.unclaimed.len(), 1);
     assert_eq!(
         (
-            claims.unclaimed[0].setting.variable,
+            claims.unclaimed[0].state.variable,
             claims.unclaimed[0].amount
         ),
         (3, 300)
@@ -155,7 +155,7 @@ fn room_less_what_is_taken_is_bound_less_the_sum() {
             let weights = terms.iter().filter(|(variable, _)| is_on(*variable));
             let sum: i64 = weights.map(|(_, weight)| i64::from(*weight)).sum();
             let taken = takings(&terms).into_iter();
-            let taken = taken.filter(|taking| is_on(taking.setting.variable) == taking.setting.on);
+            let taken = taken.filter(|taking| is_on(taking.state.variable) == taking.state.on);
             let taken: i64 = taken.map(|taking| taking.amount).sum();
             assert_eq!(
                 room - taken,
@@ -171,7 +171,7 @@ fn at_odds(event: &Event, requests: &[u16]) -> bool {
     let wishes = wishes(event, requests);
     wishes.iter().any(|one| {
         let other = |other: &review::page::claims::Wish| {
-            other.setting.variable == one.setting.variable && other.setting.on != one.setting.on
+            other.state.variable == one.state.variable && other.state.on != one.state.on
         };
         wishes.iter().any(other)
     })

@@ -38,7 +38,7 @@ fn the_accident_is_seen_at_a_glance() {
     assert_eq!(classed(&page, "verdict"), [verdict]);
     says(
         &page,
-        "Each of them is needed for the failure: without any one of them, the others can stand.",
+        "Each of them is needed for the failure: without any one of them, the rest of them can stand.",
     );
     says(&page, "Left out: Finish photos.");
     says(&page, "6 questions asked.");
@@ -152,7 +152,10 @@ fn two_bars_only_where_something_is_left_out() {
 fn rows_stand_under_their_owners() {
     let page = read(&shapes::no_budget());
     says(&page, "The host states no budget.");
-    says(&page, "What the host allows gps on or wifi off");
+    says(
+        &page,
+        "What the host allows and requires requires gps on or wifi off",
+    );
     assert_eq!(
         texts(&page, "dd"),
         [
@@ -164,10 +167,7 @@ fn rows_stand_under_their_owners() {
         ]
     );
     let page = read(&shapes::all_stand());
-    says(
-        &page,
-        "3 Clock nothing, so it can always stand beside the others",
-    );
+    says(&page, "3 Clock nothing, so it stands in nobody's way");
     says(
         &read(&shapes::event("Free", &[], &["Map"])),
         "it allows everything",
@@ -185,15 +185,23 @@ fn what_gives_and_what_nobody_requests_is_explained() {
     );
     says(
         &page,
-        "battery pack gives 300 and solar gives 120, each where it is on, which is counted as room for it and as taken \
-         where it is off. So the host's limit of 500 stands at 920.",
+        "battery pack gives 300 and solar gives 120, each where it is on. The bars count this as room, and as \
+         taken where off is requested. So the host's limit of 500 stands at 920.",
     );
     let page = read(&shapes::less_than_nothing());
     says(&page, "400 claimed of -800: 1200 too many");
-    says(&page, "wifi gives 200 where it is on, which is counted as room for it and as taken where it is off.");
+    says(&page, "wifi gives 200 where it is on. The bars count this as room, and as taken where off is requested.");
     says(&page, "0 claimed of 0: nothing left");
     says(&page, "Nobody requests any of it outright.");
     assert_eq!(classed(&page, "nothing"), ["", "0"]);
+}
+
+#[test]
+fn a_limit_close_below_nothing_has_the_only_number() {
+    let event = shapes::budget(shapes::accident(), 0, "", -10, &[(0, 400)]);
+    let page = read(&event);
+    says(&page, "400 claimed of -10: 410 too many");
+    assert_eq!(classed(&page, "nothing"), [""]);
 }
 
 #[test]
@@ -202,11 +210,11 @@ fn a_request_that_several_make_counts_once() {
     let rows = texts(&page, "tr");
     assert!(rows.contains(&"1Mapgps on40".to_string()), "{rows:?}");
     assert!(
-        rows.contains(&"2Chatgps onshared with 1".to_string()),
+        rows.contains(&"2Chatgps onshared with rank 1".to_string()),
         "{rows:?}"
     );
     assert!(
-        rows.contains(&"4Lampwifi onshared with 3".to_string()),
+        rows.contains(&"4Lampwifi onshared with rank 3".to_string()),
         "{rows:?}"
     );
     says(&page, "60 claimed of 50: 10 too many");

@@ -28,9 +28,9 @@ pub fn unclaimed(event: &Event, claims: &Claims) -> Html {
         _ => "them",
     };
     let part = |taking: &Taking| {
-        let state = on_or_off(taking.setting.on);
+        let state = on_or_off(taking.state.on);
         let takes = format!(" {state} takes {}", taking.amount);
-        Html::name(event.variable(taking.setting.variable)).say(&takes)
+        Html::name(event.variable(taking.state.variable)).say(&takes)
     };
     let parts = Html::listed(claims.unclaimed.iter().map(part).collect());
     let words = format!("Not counted, since nobody requests {them} outright: ");
@@ -40,24 +40,24 @@ pub fn unclaimed(event: &Event, claims: &Claims) -> Html {
 /// What gives something to the budget, and how that is counted.
 pub fn given(event: &Event, budget: &Budget, claims: &Claims) -> Html {
     let takings = takings(budget.terms);
-    let gives = takings.iter().filter(|taking| !taking.setting.on);
+    let gives = takings.iter().filter(|taking| !taking.state.on);
     let part = |taking: &Taking| {
-        let name = Html::name(event.variable(taking.setting.variable));
+        let name = Html::name(event.variable(taking.state.variable));
         name.say(&format!(" gives {}", taking.amount))
     };
     let parts: Vec<Html> = gives.map(part).collect();
     let where_on = match parts.len() {
         0 => return Html::nothing(),
-        1 => " where it is on",
-        _ => ", each where it is on",
+        1 => " where it is on.",
+        _ => ", each where it is on.",
     };
-    let counted = ", which is counted as room for it and as taken where it is off.";
+    let counted = " The bars count this as room, and as taken where off is requested.";
     let limit = format!(
         " So the host's limit of {} stands at {}.",
         budget.bound, claims.room
     );
-    let sentence = Html::listed(parts).say(where_on).say(counted).say(&limit);
-    paragraph(sentence)
+    let sentences = Html::listed(parts).say(where_on).say(counted).say(&limit);
+    paragraph(sentences)
 }
 
 /// Words with a capital at their start.

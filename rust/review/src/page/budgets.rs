@@ -123,9 +123,9 @@ impl Shown<'_> {
 
     /// A claim as a row of the table.
     fn claim(&self, claim: &Claim) -> Html {
-        let setting = claim.taking.setting;
-        let variable = self.event.variable(setting.variable);
-        let requested = Html::name(variable).say(&format!(" {}", on_or_off(setting.on)));
+        let state = claim.taking.state;
+        let variable = self.event.variable(state.variable);
+        let requested = Html::name(variable).say(&format!(" {}", on_or_off(state.on)));
         let takes = match claim.shared_with {
             None => Html::text(&claim.taking.amount.to_string()),
             Some(other) => Html::text(&format!("shared with {}", self.sharer(other))),
@@ -146,7 +146,7 @@ impl Shown<'_> {
     fn sharer(&self, claimant: Claimant) -> String {
         match claimant {
             Claimant::Host => "the host".to_string(),
-            plug_in => self.key(plug_in),
+            plug_in => format!("rank {}", self.key(plug_in)),
         }
     }
 

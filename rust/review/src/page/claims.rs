@@ -13,31 +13,31 @@ pub enum Claimant {
     PlugIn(u16),
 }
 
-/// A variable set on or off.
+/// A state of a variable: on or off.
 #[derive(Clone, Copy, Debug, PartialEq, Eq)]
-pub struct Setting {
+pub struct State {
     /// The variable.
     pub variable: u16,
     /// Whether it is on.
     pub on: bool,
 }
 
-/// What a setting takes of a budget, which is more than nothing.
+/// What a state takes of a budget, which is more than nothing.
 #[derive(Clone, Copy, Debug, PartialEq, Eq)]
 pub struct Taking {
-    /// The setting.
-    pub setting: Setting,
+    /// The state.
+    pub state: State,
     /// How much it takes.
     pub amount: i64,
 }
 
-/// A setting that somebody requests outright.
+/// A state that somebody requests outright.
 #[derive(Clone, Copy, Debug, PartialEq, Eq)]
 pub struct Wish {
     /// Who requests it.
     pub claimant: Claimant,
     /// What is requested.
-    pub setting: Setting,
+    pub state: State,
 }
 
 /// A wish that takes something of a budget.
@@ -68,7 +68,7 @@ impl Claims {
         self.counted().map(|claim| claim.taking.amount).sum()
     }
 
-    /// The claims that count: each setting once.
+    /// The claims that count: each state once.
     pub fn counted(&self) -> impl Iterator<Item = &Claim> {
         self.claims
             .iter()
@@ -80,7 +80,7 @@ impl Claims {
         let takings = takings(budget.terms);
         let mut claims: Vec<Claim> = Vec::new();
         for wish in wishes {
-            let taken = |taking: &&Taking| taking.setting == wish.setting;
+            let taken = |taking: &&Taking| taking.state == wish.state;
             let Some(taking) = takings.iter().find(taken) else {
                 continue;
             };
@@ -112,8 +112,8 @@ pub fn wishes(event: &Event, requests: &[u16]) -> Vec<Wish> {
         .map(|request| (Claimant::PlugIn(*request), *request));
     for (claimant, role) in std::iter::once(host).chain(plug_ins) {
         let own = event.rows.iter().filter(|row| row.row.role == role);
-        for setting in own.filter_map(|row| outright(&row.row.condition)) {
-            let wish = Wish { claimant, setting };
+        for state in own.filter_map(|row| outright(&row.row.condition)) {
+            let wish = Wish { claimant, state };
             if !wishes.contains(&wish) {
                 wishes.push(wish);
             }
@@ -122,22 +122,22 @@ pub fn wishes(event: &Event, requests: &[u16]) -> Vec<Wish> {
     wishes
 }
 
-/// The one setting that a row asks for, if it is a clause of one literal, said once or more often.
-fn outright(condition: &Condition) -> Option<Setting> {
+/// The one state that a row asks for, if it is a clause of one literal, said once or more often.
+fn outright(condition: &Condition) -> Option<State> {
     let Condition::Clause(literals) = condition else {
         return None;
     };
     let (first, others) = literals.split_first()?;
     let (variable, on) = variable_of(*first);
     let only = others.iter().all(|literal| literal == first);
-    only.then_some(Setting { variable, on })
+    only.then_some(State { variable, on })
 }
 
 /// What takes something of a budget: a variable of positive weight where it is on, one of negative
 /// weight where it is off, since it then does not give what it could.
 pub fn takings(terms: &[(u16, i32)]) -> Vec<Taking> {
     let taking = |(variable, weight): &(u16, i64)| Taking {
-        setting: Setting {
+        state: State {
             variable: *variable,
             on: *weight > 0,
         },
@@ -149,7 +149,7 @@ pub fn takings(terms: &[(u16, i32)]) -> Vec<Taking> {
 /// All that the variables of negative weight give where they are on.
 fn given(terms: &[(u16, i32)]) -> i64 {
     let takings = takings(terms);
-    let gives = takings.iter().filter(|taking| !taking.setting.on);
+    let gives = takings.iter().filter(|taking| !taking.state.on);
     gives.map(|taking| taking.amount).sum()
 }
 

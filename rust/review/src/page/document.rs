@@ -52,11 +52,3 @@ pub fn section(identifier: &str, heading: &str, content: Html) -> Html {
 pub fn paragraph(content: Html) -> Html {
     Html::element("p", &[], content)
 }
-
-/// A number of things in words: "1 question", "8 questions".
-pub fn counted(number: usize, one: &str, several: &str) -> String {
-    match number {
-        1 => format!("1 {one}"),
-        number => format!("{number} {several}"),
-    }
-}

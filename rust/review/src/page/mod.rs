@@ -38,9 +38,9 @@ const READING: &str = "The most important plug-in has rank 1. The conflict is re
     A question asks whether some plug-ins can stand together. Both sets, and the numbers of questions asked for them, come \
     from Hainscope's proved library.";
 /// How to read the bars.
-const READING_BARS: &str = "A bar shows who requests how much of a budget outright, in the order of importance from the \
-    left; the number in a segment is a rank, and what lies beyond the limit is hatched across. A bar adds up and does not \
-    decide: what can stand is the library's answer alone.";
+const READING_BARS: &str = "A bar shows who requests how much of a budget outright: from the left the host, and then the \
+    plug-ins in the order of importance. The number in a segment is a rank, and what lies beyond the limit is hatched \
+    across. A bar adds up and does not decide: what can stand is the library's answer alone.";
 
 /// The reviewer's page of an event.
 pub fn page(event: &Event, answer: &Answer) -> String {

@@ -1,23 +1,23 @@
-//! Every row in words, under its owner: what the host allows, and what each plug-in requests.
+//! Every row in words, under its owner: what the host allows and requires, and what each plug-in requests.
 
 use crate::event::{Event, EventRow};
 use crate::page::document::{paragraph, section};
 use crate::page::html::Html;
 use crate::page::told::{PlugIn, Told};
-use crate::row_words::{row_pieces, Piece};
+use crate::row_words::{row_pieces, verb, Piece};
 
-/// What the host allows.
+/// What the host allows and requires.
 pub fn host_rows(event: &Event) -> Html {
-    let rows = words_of(event, 0);
-    let content = match rows.is_empty() {
-        true => paragraph(Html::text("The host sets no limits: it allows everything.")),
-        false => {
-            let item = |row| Html::element("li", &[], row);
-            let items = rows.into_iter().map(item).collect();
-            Html::element("ul", &[("class", "rows")], items)
-        }
+    let item = |row| {
+        let verb = Html::text(verb(row)).say(" ");
+        Html::element("li", &[], verb.and(words(event, row)))
     };
-    section("host", "What the host allows", content)
+    let items: Vec<Html> = rows_of(event, 0).map(item).collect();
+    let content = match items.is_empty() {
+        true => paragraph(Html::text("The host sets no limits: it allows everything.")),
+        false => Html::element("ul", &[("class", "rows")], items.into_iter().collect()),
+    };
+    section("host", "What the host allows and requires", content)
 }
 
 /// What each plug-in requests.
@@ -32,24 +32,20 @@ pub fn plug_in_rows(event: &Event, told: &Told) -> Html {
 
 /// A plug-in and its rows.
 fn requests_of(event: &Event, plug_in: &PlugIn) -> Html {
-    let rank = Html::text(&plug_in.rank.to_string());
-    let rank = Html::element("span", &[("class", "rank")], rank);
-    let name = Html::element("dt", &[], rank.say(" ").and(Html::name(plug_in.name)));
-    let rows = words_of(event, plug_in.request);
-    let rows = match rows.is_empty() {
-        true => vec![Html::text(
-            "nothing, so it can always stand beside the others",
-        )],
-        false => rows,
-    };
+    let name = Html::element("dt", &[], plug_in.ranked());
+    let rows = rows_of(event, plug_in.request).map(|row| words(event, row));
+    let mut rows: Vec<Html> = rows.collect();
+    if rows.is_empty() {
+        rows.push(Html::text("nothing, so it stands in nobody's way"));
+    }
     let rows = rows.into_iter().map(|row| Html::element("dd", &[], row));
     Html::element("div", &[], name.and(rows.collect()))
 }
 
-/// The rows of a role in words.
-fn words_of(event: &Event, role: u16) -> Vec<Html> {
-    let own = event.rows.iter().filter(|row| row.row.role == role);
-    own.map(|row| words(event, row)).collect()
+/// The rows of a role.
+fn rows_of(event: &Event, role: u16) -> impl Iterator<Item = &EventRow> {
+    let own = move |row: &&EventRow| row.row.role == role;
+    event.rows.iter().filter(own)
 }
 
 /// A row in words.

@@ -1,7 +1,8 @@
 //! The two sets of an answer: the conflict and the best set, each with what it means and how many
 //! questions were asked for it.
 
-use crate::page::document::{counted, paragraph, section};
+use crate::names::counted;
+use crate::page::document::{paragraph, section};
 use crate::page::html::Html;
 use crate::page::told::Told;
 use crate::sentences::needed;
@@ -59,12 +60,8 @@ fn left_out(told: &Told) -> Html {
 
 /// The plug-ins of some requests, each with its rank.
 fn list(told: &Told, requests: &[u16]) -> Html {
-    let items = told.those_of(requests).into_iter().map(|plug_in| {
-        let rank = Html::text(&plug_in.rank.to_string());
-        let rank = Html::element("span", &[("class", "rank")], rank);
-        let name = Html::name(plug_in.name);
-        Html::element("li", &[], rank.say(" ").and(name))
-    });
+    let plug_ins = told.those_of(requests).into_iter();
+    let items = plug_ins.map(|plug_in| Html::element("li", &[], plug_in.ranked()));
     let class = match requests.len() {
         0..=FEW => "set",
         _ => "set many",
@@ -75,7 +72,7 @@ fn list(told: &Told, requests: &[u16]) -> Html {
 /// How many questions were asked for a report.
 fn questions(report: &Report) -> Html {
     let number = usize::try_from(report.count).unwrap_or(usize::MAX);
-    let asked = format!("{} asked.", counted(number, "question", "questions"));
+    let asked = format!("{} asked.", counted(number, "question"));
     Html::element("p", &[("class", "quiet")], Html::text(&asked))
 }
 

@@ -4,6 +4,7 @@
 
 use crate::answer::Answer;
 use crate::event::Event;
+use crate::page::html::Html;
 use hainscope::{Report, Status};
 
 /// What an answer tells.
@@ -30,6 +31,15 @@ pub struct PlugIn<'a> {
     pub rank: usize,
     /// Its name.
     pub name: &'a str,
+}
+
+impl PlugIn<'_> {
+    /// Its rank and its name, as they stand in a list.
+    pub fn ranked(&self) -> Html {
+        let rank = Html::text(&self.rank.to_string());
+        let rank = Html::element("span", &[("class", "rank")], rank);
+        rank.say(" ").and(Html::name(self.name))
+    }
 }
 
 impl<'a> Told<'a> {

@@ -16,6 +16,7 @@ mod writing;
 
 use crate::event::Event;
 use crate::names::ordinal;
+use hainscope::{MOST_REQUESTS, MOST_ROWS, MOST_VARIABLES};
 use places::Place;
 use statement::Statement;
 use std::str;
@@ -26,6 +27,10 @@ pub use writing::write;
 /// The most statements of a text: more than an event can need, whose rows, names and places in the
 /// order are 661 at most.
 pub const MOST_STATEMENTS: usize = 1000;
+const _: () = {
+    let names = MOST_VARIABLES as usize + MOST_REQUESTS as usize;
+    assert!(1 + names + MOST_ROWS + MOST_REQUESTS as usize <= MOST_STATEMENTS);
+};
 
 /// The most words and marks of a line: more than a statement can need, which are 193 at most.
 pub const MOST_WORDS: usize = 1000;

@@ -1,9 +1,8 @@
 //! An event written as a text, which is read back as the same event.
 
 use crate::event::{Event, EventRow};
-use crate::names::written;
-use crate::row_words::row_words;
-use hainscope::Condition;
+use crate::names::{counted, written};
+use crate::row_words::{row_words, verb};
 
 /// The text of an event.
 pub fn write(event: &Event) -> String {
@@ -31,15 +30,11 @@ pub fn write(event: &Event) -> String {
 
 /// A comment that tells the sizes, so that no text is empty.
 fn heading(event: &Event) -> String {
-    let number = |number: usize, thing: &str| match number {
-        1 => format!("1 {thing}"),
-        _ => format!("{number} {thing}s"),
-    };
     format!(
         "# {}, {}, {}",
-        number(event.variables.len(), "variable"),
-        number(event.plug_ins.len(), "plug-in"),
-        number(event.rows.len(), "row")
+        counted(event.variables.len(), "variable"),
+        counted(event.plug_ins.len(), "plug-in"),
+        counted(event.rows.len(), "row")
     )
 }
 
@@ -51,10 +46,9 @@ fn all_written(names: impl Iterator<Item = impl AsRef<str>>) -> String {
 
 /// A row as a statement.
 fn statement(event: &Event, row: &EventRow) -> String {
-    let condition = row_words(event, row);
-    match (row.row.role, &row.row.condition) {
-        (0, Condition::Clause(_)) => format!("host requires {condition}"),
-        (0, Condition::Linear { .. }) => format!("host allows {condition}"),
-        (request, _) => format!("{} requests {condition}", written(event.plug_in(request))),
-    }
+    let owner = match row.row.role {
+        0 => "host".to_string(),
+        request => written(event.plug_in(request)),
+    };
+    format!("{owner} {} {}", verb(row), row_words(event, row))
 }

@@ -5,7 +5,7 @@
 use std::collections::HashSet;
 
 /// The tags that a page may have.
-const TAGS: [&str; 43] = [
+const TAGS: [&str; 41] = [
     "bdi",
     "body",
     "caption",
@@ -47,8 +47,6 @@ const TAGS: [&str; 43] = [
     "title",
     "tr",
     "ul",
-    "b",
-    "i",
 ];
 
 /// What follows a mark of escaping.
