@@ -173,7 +173,7 @@ function wrongLimit(figure) {
   const [segments, beyond] = [all(figure, '.segment'), all(figure, 'rect.beyond')];
   const wrong = words(label) === `limit ${room}` ? [] : [`the limit is told as ${words(label)}`];
   const rest = room - total;
-  const expected = rest > 0 ? `${rest} left` : rest < 0 ? `${-rest} too many` : 'nothing left';
+  const expected = rest > 0 ? `${rest} left` : rest < 0 ? `${-rest} beyond the limit` : 'nothing left';
   if (told[3] !== expected) wrong.push(`${told[3]}, and not ${expected}`);
   if (beyond.length !== (rest < 0 ? 1 : 0)) wrong.push(`${beyond.length} stretches beyond the limit`);
   if (beyond.length && !near(box(beyond[0]).left, middle(line))) wrong.push('beyond does not begin at the limit');

@@ -69,7 +69,7 @@ expect 'a refused table as JSON' 1 '{"answered": false, "refusal": {"number": 3,
 printf 'variables gps\nhost requires gsp on\n' >"$room/wrong.event"
 expect 'a text with a mistake' 1 '' "$room/wrong.event: line 2, column 15: no variable is named gsp; the nearest is gps" \
     ./hainscope-review explain "$room/wrong.event"
-expect 'a text with a mistake as JSON' 1 '{"answered": false, "mistakes": [{"line": 2, "column": 15, "words": "no variable is named gsp; the nearest is gps"}]}' \
+expect 'a text with a mistake as JSON' 1 '{"answered": false, "mistakes": [{"line": 2, "column": 15, "words": "no variable is named gsp; the nearest is gps"}], "more": false}' \
     'line 2, column 15' ./hainscope-review explain --json "$room/wrong.event"
 expect 'a text with a mistake is no table' 1 '' 'standard input: line 2, column 15' from_input "$room/wrong.event" ./hainscope-review table -
 

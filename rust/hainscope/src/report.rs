@@ -42,6 +42,31 @@ pub enum Status {
     HostCannotStand,
 }
 
+impl Status {
+    /// The number that stands for the status in a report.
+    ///
+    /// ```
+    /// assert_eq!(hainscope::Status::HostCannotStand.number(), 2);
+    /// ```
+    pub fn number(self) -> u16 {
+        match self {
+            Status::AllCanStand => 0,
+            Status::Conflict => 1,
+            Status::HostCannotStand => 2,
+        }
+    }
+
+    /// The status of a number, if it is one.
+    fn of(number: u16) -> Option<Status> {
+        let all = [
+            Status::AllCanStand,
+            Status::Conflict,
+            Status::HostCannotStand,
+        ];
+        all.into_iter().find(|status| status.number() == number)
+    }
+}
+
 /// A report, decoded. Shown it is one line of words.
 #[derive(Clone, Debug, PartialEq, Eq, Hash)]
 pub struct Report {
@@ -83,12 +108,7 @@ impl Report {
                 17 => Sought::Relaxation,
                 _ => return None,
             },
-            status: match status {
-                0 => Status::AllCanStand,
-                1 => Status::Conflict,
-                2 => Status::HostCannotStand,
-                _ => return None,
-            },
+            status: Status::of(status)?,
             count: u32::from(low) | u32::from(high) << 16,
             requests: requests.to_vec(),
         })

@@ -4,7 +4,7 @@ use crate::input::Source;
 use std::ffi::OsString;
 
 /// What is printed for wrong usage.
-pub const USAGE: &str = "usage: hainscope-review explain [--json] EVENT, page [--for-publisher] EVENT, table EVENT, text EVENT, or --help";
+pub const USAGE: &str = include_str!("usage.txt");
 
 /// What is printed for --help.
 pub const HELP: &str = include_str!("help.txt");

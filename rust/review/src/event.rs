@@ -4,7 +4,7 @@
 use hainscope::{Condition, Refusal, Row, Table, TableBuilder};
 
 /// What stands for the name of something that an event has not.
-pub const UNNAMED: &str = "?";
+const UNNAMED: &str = "?";
 
 /// What the host allows, what each plug-in requests, and which requests matter most.
 #[derive(Clone, Debug, Default, PartialEq, Eq)]
@@ -54,13 +54,13 @@ impl Event {
         builder.order(&self.order).table()
     }
 
-    /// The name of a variable; a number that the event has not is [`UNNAMED`].
+    /// The name of a variable; `?` for a number that the event has not.
     pub fn variable(&self, number: u16) -> &str {
         let name = self.variables.get(usize::from(number));
         name.map_or(UNNAMED, String::as_str)
     }
 
-    /// The name of the plug-in of a request; a number that the event has not is [`UNNAMED`].
+    /// The name of the plug-in of a request; `?` for a number that the event has not.
     pub fn plug_in(&self, request: u16) -> &str {
         let place = usize::from(request).checked_sub(1);
         let name = place.and_then(|place| self.plug_ins.get(place));

@@ -3,7 +3,7 @@
 use crate::answer::Answer;
 use crate::event::Event;
 use crate::input::NoEvent;
-use hainscope::{Report, Status};
+use hainscope::Report;
 use std::fmt::Write;
 
 /// The answer as one object.
@@ -25,39 +25,36 @@ pub fn explain(event: &Event, answer: &Answer) -> String {
 
 /// Why there is no answer, as one object.
 pub fn no_event(wrong: &NoEvent) -> String {
-    let why = match wrong {
+    let mut fields = vec![("answered", "false".to_string())];
+    match wrong {
         NoEvent::Refused(refusal, record) => {
-            let fields = [
+            let refusal = [
                 ("number", refusal.number.to_string()),
                 ("place", refusal.place.to_string()),
                 ("record", record.to_string()),
                 ("reason", string(&refusal.reason().to_string())),
             ];
-            ("refusal", object(&fields))
+            fields.push(("refusal", object(&refusal)));
         }
         NoEvent::Mistaken(mistakes) => {
-            let mistakes = mistakes.told().iter().map(|mistake| {
+            let told = mistakes.told().iter().map(|mistake| {
                 object(&[
                     ("line", mistake.line.to_string()),
                     ("column", mistake.column.to_string()),
                     ("words", string(&mistake.words)),
                 ])
             });
-            ("mistakes", list(mistakes))
+            fields.push(("mistakes", list(told)));
+            fields.push(("more", mistakes.are_enough().to_string()));
         }
-    };
-    object(&[("answered", "false".to_string()), why]) + "\n"
+    }
+    object(&fields) + "\n"
 }
 
 /// The fields of a report.
 fn report(event: &Event, report: &Report) -> Vec<(&'static str, String)> {
-    let status = match report.status {
-        Status::AllCanStand => 0,
-        Status::Conflict => 1,
-        Status::HostCannotStand => 2,
-    };
     vec![
-        ("status", status.to_string()),
+        ("status", report.status.number().to_string()),
         ("questions", report.count.to_string()),
         ("plug_ins", plug_ins(event, &report.requests)),
     ]

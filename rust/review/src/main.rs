@@ -24,7 +24,7 @@ enum Stopped {
 fn main() -> ExitCode {
     let arguments: Vec<OsString> = env::args_os().skip(1).collect();
     let result = match command(&arguments) {
-        None => Err(Stopped::Failed(USAGE.to_string())),
+        None => Err(Stopped::Failed(USAGE.trim_end().to_string())),
         Some(Command::Help) => print(HELP.as_bytes()),
         Some(Command::Do(task, source)) => run(task, &source).and_then(|made| print(&made)),
     };

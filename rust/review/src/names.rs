@@ -50,10 +50,16 @@ pub fn quoted(name: &str) -> String {
 
 /// Several things in a sentence: "a", "a and b", "a, b and c".
 pub fn listed(names: &[String]) -> String {
-    match names.split_last() {
-        None => String::new(),
-        Some((only, [])) => only.clone(),
-        Some((last, others)) => format!("{} and {last}", others.join(", ")),
+    let with_mark = |(place, name)| format!("{}{name}", before(place, names.len()));
+    names.iter().enumerate().map(with_mark).collect()
+}
+
+/// What stands before the thing at a place, the first being 0, where so many are listed in a sentence.
+pub fn before(place: usize, number: usize) -> &'static str {
+    match place {
+        0 => "",
+        _ if place + 1 == number => " and ",
+        _ => ", ",
     }
 }
 

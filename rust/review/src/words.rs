@@ -53,7 +53,7 @@ fn named(event: &Event, requests: &[u16]) -> String {
 fn conflict(event: &Event, answer: &Answer) -> Vec<String> {
     let conflict = &answer.conflict.requests;
     let cannot = match conflict.len() {
-        1 => "Cannot stand beside the host's rows",
+        1 => "Cannot stand, even alone",
         _ => "Cannot stand together",
     };
     vec![

@@ -95,7 +95,7 @@ fn the_limits_of_the_page_are_those_of_the_program() {
     for words in [
         format!("There are at most {MOST_VARIABLES}, numbered from 0 "),
         format!("Declares plug-ins, at most {MOST_REQUESTS}."),
-        format!("A name has at most {MOST_NAME} characters, "),
+        format!("A name has at most {MOST_NAME} characters; "),
         format!("a variable takes -{MOST_WEIGHT} to {MOST_WEIGHT}, "),
         format!("The number that is allowed is {least} to {most}."),
         format!("A row has at most {MOST_TERMS} terms;"),
@@ -133,5 +133,6 @@ fn the_fields_of_the_json_are_those_of_the_page() {
         fields.contains("mistakes")
             && mistaken.starts_with("{\"answered\": false, \"mistakes\": [")
     );
-    assert_eq!(fields.len(), 7);
+    assert!(fields.contains("more") && mistaken.ends_with("], \"more\": false}\n"));
+    assert_eq!(fields.len(), 8);
 }

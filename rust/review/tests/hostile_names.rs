@@ -12,10 +12,10 @@ use review::text;
 use std::collections::BTreeSet;
 
 /// What names are made of, beside the words of the language.
-const PARTS: [&str; 40] = [
+const PARTS: [&str; 38] = [
     " ",
     " ",
-    "  ",
+    "- -",
     "\"",
     "\"",
     "\\",
@@ -46,8 +46,6 @@ const PARTS: [&str; 40] = [
     "ß",
     "İ",
     "漢字",
-    "\u{3000}",
-    "\u{a0}",
     "👟",
     "👩\u{200d}👧",
     "שלום",
@@ -72,7 +70,8 @@ fn name(random: &mut Random) -> String {
         name = (0..40).map(|_| parts(random)).collect();
         name = name.trim_start().chars().take(MOST_NAME).collect();
     }
-    name.trim().to_string()
+    let words: Vec<&str> = name.split_whitespace().collect();
+    words.join(" ")
 }
 
 /// So many names of one sort, no two the same.

@@ -43,7 +43,10 @@ fn the_accident_is_seen_at_a_glance() {
     says(&page, "Left out: Finish photos.");
     says(&page, "6 questions asked.");
     says(&page, "4 questions asked.");
-    says(&page, "All plug-ins: 4200 claimed of 4000: 200 too many");
+    says(
+        &page,
+        "All plug-ins: 4200 claimed of 4000: 200 beyond the limit",
+    );
     says(&page, "The best set only: 2900 claimed of 4000: 1100 left");
     says(&page, "at most 4000 of \"bib map rows\": tracking takes 1500, splits takes 1400, photos takes 1300");
     assert_eq!(classed(&page, "key"), ["1", "2", "3", "1", "2"]);
@@ -106,7 +109,7 @@ fn every_plug_in_stands_in_the_table_by_importance() {
     ];
     assert_eq!(rows, expected);
     says(&page, "8 questions asked.");
-    says(&page, "5300 claimed of 4000: 1300 too many");
+    says(&page, "5300 claimed of 4000: 1300 beyond the limit");
 }
 
 #[test]
@@ -126,7 +129,7 @@ fn every_status_has_its_verdict() {
     );
     assert_eq!(
         verdict(shapes::one_fails()),
-        "The plug-in Map cannot stand beside the host's rows."
+        "The plug-in Map cannot stand, even alone."
     );
     assert_eq!(
         verdict(shapes::event("One", &[], &["Map"])),
@@ -177,7 +180,7 @@ fn rows_stand_under_their_owners() {
 #[test]
 fn what_gives_and_what_nobody_requests_is_explained() {
     let page = read(&shapes::negative());
-    says(&page, "1070 claimed of 920: 150 too many");
+    says(&page, "1070 claimed of 920: 150 beyond the limit");
     assert!(texts(&page, "tr").contains(&"–the hostscreen on250".to_string()));
     says(
         &page,
@@ -189,7 +192,7 @@ fn what_gives_and_what_nobody_requests_is_explained() {
          taken where off is requested. So the host's limit of 500 stands at 920.",
     );
     let page = read(&shapes::less_than_nothing());
-    says(&page, "400 claimed of -800: 1200 too many");
+    says(&page, "400 claimed of -800: 1200 beyond the limit");
     says(&page, "wifi gives 200 where it is on. The bars count this as room, and as taken where off is requested.");
     says(&page, "0 claimed of 0: nothing left");
     says(&page, "Nobody requests any of it outright.");
@@ -200,7 +203,7 @@ fn what_gives_and_what_nobody_requests_is_explained() {
 fn a_limit_close_below_nothing_has_the_only_number() {
     let event = shapes::budget(shapes::accident(), 0, "", -10, &[(0, 400)]);
     let page = read(&event);
-    says(&page, "400 claimed of -10: 410 too many");
+    says(&page, "400 claimed of -10: 410 beyond the limit");
     assert_eq!(classed(&page, "nothing"), [""]);
 }
 
@@ -217,7 +220,7 @@ fn a_request_that_several_make_counts_once() {
         rows.contains(&"4Lampwifi onshared with rank 3".to_string()),
         "{rows:?}"
     );
-    says(&page, "60 claimed of 50: 10 too many");
+    says(&page, "60 claimed of 50: 10 beyond the limit");
 }
 
 #[test]

@@ -41,9 +41,8 @@ fn long_work_shows_a_line_that_goes() {
     let progress = Progress::on(Box::new(shown.clone()), Duration::from_millis(1));
     let seen = shown.clone();
     let until_shown = || {
-        while seen.words().is_empty() {
-            thread::sleep(Duration::from_millis(1));
-        }
+        let looks = (0..60_000).take_while(|_| seen.words().is_empty());
+        looks.for_each(|_| thread::sleep(Duration::from_millis(1)));
         8
     };
     assert_eq!(progress.during("thinking", until_shown), 8);

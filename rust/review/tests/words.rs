@@ -56,7 +56,7 @@ fn one_cannot_stand_by_itself() {
         told("plug-ins a, b\nb requests the impossible\nmost important first: b, a"),
         [
             "In order of importance: b and a.",
-            "Cannot stand beside the host's rows (the preferred conflict): plug-in b.",
+            "Cannot stand, even alone (the preferred conflict): plug-in b.",
             "It is needed for the failure: without it, the host's rows can stand.",
             "The best set (the preferred relaxation): plug-in a.",
             "It leaves out plug-in b.",

@@ -4,7 +4,7 @@
 use crate::page::html::Html;
 
 /// How many patterns tell segments apart; patterns.svg has them.
-const PATTERNS: usize = 6;
+const NUMBER_OF_PATTERNS: usize = 6;
 /// The bar's edges, in hundredths of the width: their lines stay within the picture.
 const LEFT: f64 = 0.4;
 const RIGHT: f64 = 99.6;
@@ -106,7 +106,10 @@ impl Bar<'_> {
     /// The claims.
     fn segments(&self) -> Html {
         let segment = |(from, to, segment): (f64, f64, &Segment)| {
-            let class = format!("segment pattern-{}", segment.pattern % PATTERNS + 1);
+            let class = format!(
+                "segment pattern-{}",
+                segment.pattern % NUMBER_OF_PATTERNS + 1
+            );
             block(&class, from, to)
         };
         self.places().into_iter().map(segment).collect()

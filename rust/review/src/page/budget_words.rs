@@ -15,7 +15,7 @@ pub fn sum(claims: &Claims) -> String {
     let rest = match room - total {
         0 => "nothing left".to_string(),
         left if left > 0 => format!("{left} left"),
-        beyond => format!("{} too many", beyond.abs()),
+        beyond => format!("{} beyond the limit", beyond.abs()),
     };
     format!("{total} claimed of {room}: {rest}")
 }

@@ -1,6 +1,7 @@
 //! Pieces of a page. Whatever text comes in is escaped, and each element closes what it opens, so that
 //! a page is well formed whatever its names are; only words of the program itself go in as they are.
 
+use crate::names::before;
 use crate::page::escape::escaped;
 use std::fmt;
 
@@ -90,12 +91,7 @@ impl Html {
         let number = pieces.len();
         let mut listed = Html::nothing();
         for (place, piece) in pieces.into_iter().enumerate() {
-            let before = match place {
-                0 => "",
-                _ if place + 1 == number => " and ",
-                _ => ", ",
-            };
-            listed = listed.say(before).and(piece);
+            listed = listed.say(before(place, number)).and(piece);
         }
         listed
     }

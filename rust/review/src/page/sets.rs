@@ -39,7 +39,7 @@ fn best_set(told: &Told) -> Html {
         Status::HostCannotStand => words("There is none: no set of plug-ins can stand."),
         _ if told.plug_ins.is_empty() => words("It is empty, since there are no plug-ins."),
         _ if told.relaxation.requests.is_empty() => {
-            words("It is empty: no plug-in can stand beside the host's rows.").and(left_out(told))
+            words("It is empty: no plug-in can stand, not even alone.").and(left_out(told))
         }
         _ => list(told, &told.relaxation.requests).and(left_out(told)),
     };
@@ -66,7 +66,8 @@ fn list(told: &Told, requests: &[u16]) -> Html {
         0..=FEW => "set",
         _ => "set many",
     };
-    Html::element("ul", &[("class", class)], items.collect())
+    let attributes = [("class", class), ("role", "list")]; // which a list without marks may lose
+    Html::element("ul", &attributes, items.collect())
 }
 
 /// How many questions were asked for a report.

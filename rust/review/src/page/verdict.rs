@@ -36,7 +36,7 @@ fn conflict(told: &Told) -> Html {
     match members.len() {
         1 => Html::text("The plug-in ")
             .and(names)
-            .say(" cannot stand beside the host's rows."),
+            .say(" cannot stand, even alone."),
         2..=MOST_NAMES => Html::text("The plug-ins ")
             .and(names)
             .say(" cannot stand together."),

@@ -84,7 +84,9 @@ fn quoted(letters: &[char], place: Place) -> Result<(Token, usize), Mistake> {
             ('"', _) => return Ok((Token::Quoted(name), index + 1)),
             ('\\', Some(marked @ ('"' | '\\'))) => name.push(*marked),
             ('\\', Some(_)) => return Err(place.after(index).mistake(no_mark())),
-            ('\t', _) => return Err(place.after(index).mistake(no_tab())),
+            (letter, _) if is_second_space(&name, *letter) => {
+                return Err(place.after(index).mistake(one_space()))
+            }
             _ => name.push(*letter),
         }
         index += 1 + usize::from(escaped);
@@ -101,6 +103,11 @@ fn no_mark() -> String {
     "a backslash in quotes stands before a quote or another backslash: \\\" or \\\\".to_string()
 }
 
-fn no_tab() -> String {
-    "a tab cannot stand in a name".to_string()
+/// Whether a letter after a part of a name is white space that nobody tells from one space.
+fn is_second_space(name: &str, letter: char) -> bool {
+    letter.is_whitespace() && (letter != ' ' || name.ends_with(' '))
+}
+
+fn one_space() -> String {
+    "between the words of a name stands one space, and no other white space".to_string()
 }

@@ -32,11 +32,15 @@ fn a_name_of_characters_that_cannot_be_one_is_told() {
         "expected a name in the quotes, which neither is empty nor begins or ends with a space";
     let backslash =
         "a backslash in quotes stands before a quote or another backslash: \\\" or \\\\";
+    let one_space = "between the words of a name stands one space, and no other white space";
     let unseen = "expected a name, found characters that nobody sees";
     for (line, column, words) in [
-        ("variables \"y\u{a0}\"", 11, spaces),
-        ("variables \"\u{3000}y\"", 11, spaces),
-        ("variables \"y\tz\"", 13, "a tab cannot stand in a name"),
+        ("variables \"y \"", 11, spaces),
+        ("variables \" y\"", 11, spaces),
+        ("variables \"y\u{a0}z\"", 13, one_space),
+        ("variables \"\u{3000}y\"", 12, one_space),
+        ("variables \"y\tz\"", 13, one_space),
+        ("variables \"y  z\"", 14, one_space),
         ("variables \"y\\\tz\"", 13, backslash),
         ("variables \u{200d}", 11, unseen),
         ("variables \"\u{200d} \u{fe0f}\"", 11, unseen),

@@ -65,7 +65,7 @@ fn a_refused_table_and_a_text_with_mistakes_are_told_in_exactly_these_words() {
         refused(b"variables \"a b\", \"c\\\\d\"\nhost requires \"c\\\\\" on\nhost requires e on\n"),
         "{\"answered\": false, \"mistakes\": [\
          {\"line\": 2, \"column\": 15, \"words\": \"no variable is named c\\\\; the nearest is c\\\\d\"}, \
-         {\"line\": 3, \"column\": 15, \"words\": \"no variable is named e; known are \\\"a b\\\" and c\\\\d\"}]}\n"
+         {\"line\": 3, \"column\": 15, \"words\": \"no variable is named e; known are \\\"a b\\\" and c\\\\d\"}], \"more\": false}\n"
     );
 }
 
