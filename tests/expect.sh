@@ -37,3 +37,15 @@ holds() {
         echo "$name: failed"
     fi
 }
+
+# from_input FILE COMMAND...: the command, with a file as its standard input
+from_input() {
+    local file=$1
+    shift
+    "$@" <"$file"
+}
+
+# the command with a closed input, with a closed output, and with an output that takes nothing
+without_input() { "$@" <&-; }
+without_output() { "$@" >&-; }
+to_full_output() { "$@" >/dev/full; }

@@ -4,7 +4,7 @@
 # shapes of rust/review/tests/shapes; PAGES_FOLDER names a folder with NAME.html and NAME.publisher.html instead. Each page
 # is seen as it is, in a frame, and tests/pages.js looks into it from outside. CHROMIUM names another browser.
 # pages.sh --picture FILE: makes a picture of the accident's page.
-# pages.sh --browser: tells by its exit status whether there is a browser.
+# pages.sh --browser: tells by its exit status whether there is a browser that starts.
 set -u
 unset CDPATH
 case $#:${1:-} in
@@ -46,13 +46,17 @@ if ! browser=$(find_browser); then
     echo 'no browser is installed: the pages are not looked at in one'
     exit 0
 fi
-[ "${1:-}" != --browser ] || exit 0
 
 # browse FLAG... FILE: the browser on a file, with nobody before it; what it says of itself is not shown
 browse() {
     timeout 120 "$browser" --headless=new --no-sandbox --disable-gpu --disable-dev-shm-usage --hide-scrollbars \
         --user-data-dir="$room/profile" --virtual-time-budget=10000 "$@" 2>/dev/null
 }
+
+if [ "${1:-}" = --browser ]; then
+    browse --dump-dom about:blank | grep -q '<html'
+    exit
+fi
 
 # write_sample NAME: both pages of a sample
 write_sample() {

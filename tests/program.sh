@@ -14,18 +14,6 @@ usage='usage: hainscope [FILE], or hainscope --help'
 
 ./hainscope samples/h.table >/dev/null 2>&1 # builds it where nothing is built yet
 
-# from_input FILE COMMAND...: the command, with a file as its standard input
-from_input() {
-    local file=$1
-    shift
-    "$@" <"$file"
-}
-
-# the command with a closed input, with a closed output, and with an output that takes nothing
-without_input() { "$@" <&-; }
-without_output() { "$@" >&-; }
-to_full_output() { "$@" >/dev/full; }
-
 expect 'a table as standard input' 0 "$answer" '' from_input samples/h.table ./hainscope
 expect 'a table as a file' 0 "$answer" '' ./hainscope samples/h.table
 expect 'a refused table as standard input' 1 "$refusal" '' from_input samples/h-damaged.table ./hainscope

@@ -14,18 +14,6 @@ usage='usage: hainscope-review explain'
 
 ./hainscope-review explain "$accident" >/dev/null 2>&1 # builds it where nothing is built yet
 
-# from_input FILE COMMAND...: the command, with a file as its standard input
-from_input() {
-    local file=$1
-    shift
-    "$@" <"$file"
-}
-
-# the command with a closed input, with a closed output, and with an output that takes nothing
-without_input() { "$@" <&-; }
-without_output() { "$@" >&-; }
-to_full_output() { "$@" >/dev/full; }
-
 # same NAME FILE COMMAND...: the command prints the file, byte for byte
 same() {
     local name=$1 file=$2
