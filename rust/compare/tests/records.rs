@@ -131,3 +131,31 @@ fn tables_come_from_bytes_as_reading_says() {
     tally.at_least(400, "accepted");
     tally.at_least(1_000, "refused");
 }
+
+#[test]
+fn a_refusal_tells_the_number_of_its_record() {
+    let mut tally = Tally::new();
+    for seed in 612_000..620_000 {
+        let table = made(seed).table;
+        let Err(refusal) = Table::read(&table) else {
+            continue;
+        };
+        let before = records(&table).take_while(|record| record.place < refusal.place);
+        let call = "the record of a refusal";
+        let asked = Asked {
+            call,
+            seed,
+            table: &table,
+        };
+        same(&asked, refusal.record(&table), before.count());
+        tally.add(match refusal.place {
+            0 => "the first record",
+            place if place == table.len() => "the end",
+            _ => "a later record",
+        });
+    }
+    tally.print("records: of refusals");
+    tally.at_least(300, "the first record");
+    tally.at_least(20, "the end");
+    tally.at_least(2_000, "a later record");
+}
