@@ -28,8 +28,9 @@ impl Answer {
         let find = |words: &str, sought| progress.during(words, || table.report(sought));
         let conflict = find("looking for what cannot stand", Sought::Conflict)?;
         let relaxation = find("looking for the best set", Sought::Relaxation)?;
-        let kept = |request: &u16| !relaxation.requests.contains(request);
-        let left_out = event.order.iter().copied().filter(kept).collect();
+        let is_left_out = |request: &u16| !relaxation.requests.contains(request);
+        let left_out = event.order.iter().copied().filter(is_left_out);
+        let left_out = left_out.collect();
         Ok(Answer {
             conflict,
             relaxation,

@@ -69,8 +69,10 @@ fn run(task: Task, source: &Source) -> Result<Vec<u8>, Stopped> {
 
 /// The library's answer to an event.
 fn answer(task: Task, source: &Source, event: &Event) -> Result<Answer, Stopped> {
-    Answer::to(event, &Progress::on_terminal())
-        .map_err(|refusal| refused(task, source, &NoEvent::Refused(refusal, 0)))
+    Answer::to(event, &Progress::on_terminal()).map_err(|refusal| {
+        let record = refusal.record(&event.table());
+        refused(task, source, &NoEvent::Refused(refusal, record))
+    })
 }
 
 /// What becomes of an event that is refused.
