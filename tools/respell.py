@@ -34,6 +34,8 @@ OTHERWISE = {
     "named-twice": "named_twice_lem",
     "not-zero": "not_zero_lem",
     "whole_by": "whole_by_lem",
+    "encode-order": "encode_order_lem",
+    "encode-rows": "encode_rows_lem",
     "head_first": "head_is_first",
     "in-sequence": "is_in_sequence",
     "in-range": "is_in_range",
@@ -80,15 +82,37 @@ def declared():
     return found
 
 
-def respelled(name, words):
+def fields():
+    """The names that stand in the block of a record: a dash joins no names there."""
+    found = set()
+    for path in files(".antt"):
+        if "/crates/" not in path or path.endswith("Proof.antt"):
+            continue
+        depth = None
+        for line in re.sub(r"--.*", "", read(path)).split("\n"):
+            if not line.strip():
+                continue
+            indent = len(line) - len(line.lstrip())
+            if depth is not None and indent <= depth:
+                depth = None
+            if depth is not None:
+                m = re.match(r" *(?:pub )?((?:" + NAME + r" )+):", line)
+                found.update(m.group(1).split() if m else [])
+            elif re.match(r" *(?:pub )?record .*where\s*$", line):
+                depth = indent
+    return found
+
+
+def respelled(name, words, joined=True):
     parts = [snake(part) for part in name.split("-")]
-    if len(parts) == 2 and all(part in words for part in parts):
+    if joined and len(parts) == 2 and all(part in words for part in parts):
         return "-".join(parts)
     return "_".join(parts)
 
 
 def renamings(found):
-    words = JOINED | {snake(n) for n in found if "-" not in n and any("/specs/" in p for p in found[n])}
+    inside = fields()
+    words = JOINED | {snake(n) for n in found if "-" not in n and n not in inside and any("/specs/" in p for p in found[n])}
     new = {}
     for name in sorted(found):
         if name in OTHERWISE:
@@ -98,7 +122,7 @@ def renamings(found):
             continue
         if name[0].isupper() and "-" not in name:
             continue
-        to = respelled(name, words)
+        to = respelled(name, words, name not in inside)
         if to != name:
             new[name] = to
     return new

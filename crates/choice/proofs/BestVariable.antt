@@ -4,8 +4,8 @@ use Rattle.meaning.specs.HalfMade.{Values, is_free}
 use Rattle.choice.specs.Chosen.{Chosen}
 
 -- none is looked at
-pub none-chosen : (values : Values) → Chosen values 0 (length values)
-none-chosen values = record { most = omega arith; free = λ h. absurd (omega arith); none_free = λ h other below. absurd (omega arith) }
+pub none_chosen : (values : Values) → Chosen values 0 (length values)
+none_chosen values = record { most = omega arith; free = λ h. absurd (omega arith); none_free = λ h other below. absurd (omega arith) }
 
 -- what holds below, and at the next, holds below the one after it
 one_further :
@@ -40,6 +40,6 @@ pub now_best : (values : Values) (next : ℕ) → next < length values → is_fr
 now_best values next h free = record { most = omega arith; free = λ _. free; none_free = λ none. absurd (omega arith) }
 
 -- all are looked at
-pub chosen-all : (values : Values) (next best : ℕ) → length values ≤ next → Chosen values next best → Chosen values (length values) best
-chosen-all values next best h chosen =
+pub chosen_all : (values : Values) (next best : ℕ) → length values ≤ next → Chosen values next best → Chosen values (length values) best
+chosen_all values next best h chosen =
     record { most = chosen.most; free = chosen.free; none_free = λ none other below. chosen.none_free none other (omega arith) }

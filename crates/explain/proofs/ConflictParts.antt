@@ -37,7 +37,7 @@ module _ (ok : Question) (from count : ℕ) (asking : Bool) (X : Selection) (tol
   gives_nothing some h S g =
       let a = asked_no asking (ok X) told e h in
       let p = conflict_gives_nothing ok half half_cuts count from S some (rw g at a.1) in
-      rw a.0 (rw p (record { set = g; found-is = refl; asked_is = refl }))
+      rw a.0 (rw p (record { set = g; found_is = refl; asked_is = refl }))
 
   module _ (h : told ≡ false) (asked : ℕ) (counted : asked ≡ cond asking 1 0) where
     ground : (S : Selection) → X ≡ all from ++ (none count ++ S) → asking ≡ true → ok (all from ++ (none count ++ S)) ≡ true
@@ -51,7 +51,7 @@ module _ (ok : Question) (from count : ℕ) (asking : Bool) (X : Selection) (tol
         rw p
         (record {
           set = rw (g, one) (set_at (all from) false S true from (length-all from));
-          found-is = refl;
+          found_is = refl;
           asked_is = counted;
         })
 
@@ -121,11 +121,11 @@ is_cut ok from count asking X told e h asked counted more F1 F2 F3 F4 f2 a2 f1 a
     let d1 : Part = halve_conflict ok (middle (count / 2)) from (ltb 0 f2) d2.set in
     let p =
     conflict_is_cut ok half half_cuts count from S more asking (ground ok from count asking X told e h asked counted S g) d2 d1 refl
-    (rw l2.found-is) in
+    (rw l2.found_is) in
     rw (p, added)
     (record {
       set = l1.set;
-      found-is = omega (arith, l2.found-is, l1.found-is);
+      found_is = omega (arith, l2.found_is, l1.found_is);
       asked_is = omega (arith, counted, l2.asked_is, l1.asked_is);
     })
 
@@ -137,7 +137,7 @@ pub few_in_conflict :
     (f ≤ count) × (a ≤ 2 * count)
 few_in_conflict ok from count asking X F f a ready worked =
     let l = worked ready.S ready.ground in
-    go asking (conflict_asks_few ok half half_cuts count ready.some from asking ready.S) l.found-is l.asked_is
+    go asking (conflict_asks_few ok half half_cuts count ready.some from asking ready.S) l.found_is l.asked_is
   where
     go : (b : Bool) {p : Part} → Few b count p → f ≡ p.found → a ≡ p.asked → (f ≤ count) × (a ≤ 2 * count)
     go true w x y = omega (arith, w.found, w.asked)

@@ -60,21 +60,21 @@ module _ (X : Selection) (nobody : X ≡ none (length X)) (some : 0 < length X) 
         }
 
 -- a method's answer is the shared start's, with its own whole and work
-pub answer-is : (method : Method) (ok : Question) (n : ℕ) → answer_by method ok n ≡ answered ok n (whole_by method n) (worked_by method ok n)
+pub answer_is : (method : Method) (ok : Question) (n : ℕ) → answer_by method ok n ≡ answered ok n (whole_by method n) (worked_by method ok n)
 unfolding answer_by whole_by worked_by
-answer-is ConflictByHalving ok n = refl
-answer-is ConflictOneByOne ok n = refl
-answer-is RelaxationByHalving ok n = refl
-answer-is RelaxationOneByOne ok n = refl
+answer_is ConflictByHalving ok n = refl
+answer_is ConflictOneByOne ok n = refl
+answer_is RelaxationByHalving ok n = refl
+answer_is RelaxationOneByOne ok n = refl
 
 module _ (method : Method) (ok : Question) (n : ℕ) (begun : Begun) (F : Selection) (begins : Begins ok n begun F) where
   start_is : answer_by method ok n ≡ finished begun n (whole_by method n) (worked_by method ok n)
-  start_is = answer-is method ok n ∙ begins.answer (whole_by method n) (worked_by method ok n)
+  start_is = answer_is method ok n ∙ begins.answer (whole_by method n) (worked_by method ok n)
 
   -- all can stand
   pub answers-all : begun ≡ AllStand → (G : Selection) → G ≡ whole_by method n → Answers (answer_by method ok n) n G 0 1
   unfolding finished
-  answers-all b G e = record { is = rw (start_is, b, e); small-status = omega arith; few-asked = omega arith }
+  answers-all b G e = record { is = rw (start_is, b, e); small_status = omega arith; few_asked = omega arith }
 
   -- the host cannot
   pub answers_host_fails : (asked : ℕ) → begun ≡ HostFails asked → Answers (answer_by method ok n) n F 2 asked
@@ -82,7 +82,7 @@ module _ (method : Method) (ok : Question) (n : ℕ) (begun : Begun) (F : Select
   answers_host_fails asked b =
       let w : asked ≤ 2 = rw b at begins.well in
       let l : F ≡ none n = rw b at begins.left in
-      record { is = rw (start_is, b, l); small-status = omega arith; few-asked = omega arith }
+      record { is = rw (start_is, b, l); small_status = omega arith; few_asked = omega arith }
 
   -- the flags that the method's work is handed
   pub open_none : begun ≡ Open → F ≡ none n
@@ -102,4 +102,4 @@ module _ (method : Method) (ok : Question) (n : ℕ) (begun : Begun) (F : Select
       Answers (answer_by method ok n) n G 1 (2 + asked)
   unfolding finished
   answers_worked b G asked long tells =
-      record { is = rw (start_is, b, tells.set, tells.asked_is); small-status = omega arith; few-asked = omega (arith, tells.few) }
+      record { is = rw (start_is, b, tells.set, tells.asked_is); small_status = omega arith; few_asked = omega (arith, tells.few) }

@@ -18,9 +18,9 @@ use Rattle.explain.specs.Asking.{marked}
 
 module _ (order : List ℕ) (X : Selection) (i : ℕ) (d : ℕ) (b : Bool) (same : length X ≡ length order) (more : i < length order) where
   -- the request at a place is named where it is chosen
-  pub named-chosen : get_or X i b ≡ true → named (drop i order) (drop i X) ≡ get_or order i d ∷ named (drop (i + 1) order) (drop (i + 1) X)
+  pub named_chosen : get_or X i b ≡ true → named (drop i order) (drop i X) ≡ get_or order i d ∷ named (drop (i + 1) order) (drop (i + 1) X)
   unfolding named
-  named-chosen e = rw (add-one, drop-cons order i d more, drop-cons X i b (omega arith), e)
+  named_chosen e = rw (add-one, drop-cons order i d more, drop-cons X i b (omega arith), e)
 
   -- and passed over where it is not
   pub named_left_out : get_or X i b ≡ false → named (drop i order) (drop i X) ≡ named (drop (i + 1) order) (drop (i + 1) X)
@@ -66,10 +66,10 @@ marked_reads (request ∷ more) chosen role h =
     ∙ rw (set_reads chosen request role small) (swap (among role more) (eqb role request) (get_or chosen role false))
 
 -- what is named of an order stands in the order
-pub every-named : (test : ℕ → Bool) (order : List ℕ) (X : Selection) → every test order ≡ true → every test (named order X) ≡ true
+pub every_named : (test : ℕ → Bool) (order : List ℕ) (X : Selection) → every test order ≡ true → every test (named order X) ≡ true
 unfolding every named
-every-named test [] X h = refl
-every-named test (request ∷ order) [] h = refl
-every-named test (request ∷ order) (true ∷ X) h =
-    let g = both (test request) (every test order) h in rw g.0 (every-named test order X g.1)
-every-named test (request ∷ order) (false ∷ X) h = every-named test order X (both (test request) (every test order) h).1
+every_named test [] X h = refl
+every_named test (request ∷ order) [] h = refl
+every_named test (request ∷ order) (true ∷ X) h =
+    let g = both (test request) (every test order) h in rw g.0 (every_named test order X g.1)
+every_named test (request ∷ order) (false ∷ X) h = every_named test order X (both (test request) (every test order) h).1

@@ -19,7 +19,7 @@ use Rattle.meaning.proofs.Choices.{same_on_table}
 use Rattle.preference.specs.Selection.{Selection}
 use Rattle.preference.specs.Named.{named}
 use Rattle.explain.specs.Asking.{chosen_by, question_of, Lent, marked}
-use Rattle.explain.proofs.Marking.{length_marked, marked_reads, every-named}
+use Rattle.explain.proofs.Marking.{length_marked, marked_reads, every_named}
 
 -- a number from 1 on is one from 0 on, and stays below what is higher
 from_zero : (low high : ℕ) (xs : List ℕ) → low ≤ high → every (within 1 low) xs ≡ true → every (within 0 high) xs ≡ true
@@ -42,23 +42,23 @@ no_flag (suc many) (suc role) = no_flag many role
 module _ (t : List ℕ) (f : Frame) (order : List ℕ) (X : Selection) (lent : Lent t f order X) where
   -- the numbers of the order are places of the list
   pub order_fits : every (within 0 (length (set nobody 0 true))) order ≡ true
-  order_fits = from_zero (f.requests + 1) (most_requests + 1) order (omega (arith, lent.kept.few-requests)) lent.numbers
+  order_fits = from_zero (f.requests + 1) (most_requests + 1) order (omega (arith, lent.kept.few_requests)) lent.numbers
 
   module _ (marks : List Bool) (e : marks ≡ marked (named order X) (set nobody 0 true)) where
     reads : (role : ℕ) → get_or marks role false ≡ (among role (named order X) || get_or (set nobody 0 true) role false)
-    reads role = rw e (marked_reads (named order X) (set nobody 0 true) role (every-named _ order X order_fits))
+    reads role = rw e (marked_reads (named order X) (set nobody 0 true) role (every_named _ order X order_fits))
 
     long : length marks ≡ most_requests + 1
     long = rw e (length_marked (named order X) (set nobody 0 true))
 
     -- the question may be asked of it
     pub may_ask : MayAsk t f marks
-    may_ask = record { kept = lent.kept; each = omega (arith, long, lent.kept.few-requests); host = reads 0 ∙ or-true (among 0 (named order X)) }
+    may_ask = record { kept = lent.kept; each = omega (arith, long, lent.kept.few_requests); host = reads 0 ∙ or-true (among 0 (named order X)) }
 
     -- and it is the question of the order
-    pub same-question : (told : Bool) → told ≡ stands (rows_of t f) f.variables (by_role marks) → told ≡ question_of t f order X
+    pub same_question : (told : Bool) → told ≡ stands (rows_of t f) f.variables (by_role marks) → told ≡ question_of t f order X
     unfolding question_of chosen_by
-    same-question told h =
+    same_question told h =
         h ∙ same_on_table (by_role marks) (chosen_by order X) t f lent.kept
         (λ role more most. reads role
         ∙ rw (get_or-set_other nobody 0 role true false (λ z. omega arith), no_flag (most_requests + 1) role) (or-false (among role (named order X))))

@@ -65,7 +65,7 @@ module _ (ok : Question) (from count : ℕ) (asking : Bool) (X F : Selection) (t
       let t = tried P after l g in
       let a = asked_yes asking _ (sym h ∙ t.told_is) in
       let p = relax_keeps_the_part ok half half_cuts P count after some a.1 in
-      rw a.0 (rw p (record { set = t.kept h ∙ sym (append_assoc P (all count) (none after)); found-is = refl; asked_is = refl }))
+      rw a.0 (rw p (record { set = t.kept h ∙ sym (append_assoc P (all count) (none after)); found_is = refl; asked_is = refl }))
 
   module _ (h : told ≡ false) (asked : ℕ) (counted : asked ≡ cond asking 1 0) where
     fails : (P : Selection) (after : ℕ) → length P ≡ from → X ≡ P ++ (none count ++ none after) → asking ≡ true → ok (P ++ (all count ++ none after)) ≡ false
@@ -79,7 +79,7 @@ module _ (ok : Question) (from count : ℕ) (asking : Bool) (X F : Selection) (t
         rw p
         (record {
           set = rw one at ((tried P after l g).left_out h) ∙ sym (append_assoc P (false ∷ []) (none after));
-          found-is = refl;
+          found_is = refl;
           asked_is = counted;
         })
 
@@ -156,11 +156,11 @@ is_cut ok from count asking X F told tried h asked counted more F1 F2 f1 a1 f2 a
     let k2 : Part = halve_relax ok (middle rest) k1.set after (ltb 0 f1) in
     let p =
     relax_is_cut ok half half_cuts P count after more asking (fails ok from count asking X F told tried h asked counted P after l g) k1 k2 refl
-    (rw l1.found-is) in
+    (rw l1.found_is) in
     rw p
     (record {
       set = l2.set;
-      found-is = omega (arith, l1.found-is, l2.found-is);
+      found_is = omega (arith, l1.found_is, l2.found_is);
       asked_is = omega (arith, counted, l1.asked_is, l2.asked_is);
     })
 
@@ -172,7 +172,7 @@ pub few_in_relaxation :
     (f ≤ count) × (a ≤ 2 * count)
 few_in_relaxation ok from count asking X F f a ready worked =
     let l = worked ready.P ready.after ready.long ready.ground in
-    go asking (relax_asks_few ok half half_cuts count ready.some ready.P ready.after asking) l.found-is l.asked_is
+    go asking (relax_asks_few ok half half_cuts count ready.some ready.P ready.after asking) l.found_is l.asked_is
   where
     go : (b : Bool) {p : Part} → Few b count p → f ≡ p.found → a ≡ p.asked → (f ≤ count) × (a ≤ 2 * count)
     go true w x y = omega (arith, w.found, w.asked)

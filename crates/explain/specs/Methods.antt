@@ -68,5 +68,5 @@ pub record Begins (ok : Question) (n : ℕ) (begun : Begun) (exit : Selection) :
 -- an answer over n requests, its set in the flags: it is the one that is wanted, with small numbers
 pub record Answers (wanted : Answer) (n : ℕ) (exit : Selection) (status asked : ℕ) : Type 0 where
   pub is : record { status = status; set = exit; asked = asked } ≡ wanted
-  pub small-status : status ≤ 2
-  pub few-asked : asked ≤ 2 + 2 * n
+  pub small_status : status ≤ 2
+  pub few_asked : asked ≤ 2 + 2 * n

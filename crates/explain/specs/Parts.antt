@@ -15,7 +15,7 @@ pub record InGround (from count : ℕ) (X : Selection) : Type 0 where
 -- what a part that is worked leaves: the flags, how many requests matter, and how many questions were asked
 pub record Leaves (p : Part) (X : Selection) (exit : Selection) (found asked : ℕ) : Type 0 where
   pub set : exit ≡ X
-  pub found-is : found ≡ p.found
+  pub found_is : found ≡ p.found
   pub asked_is : asked ≡ p.asked
 
 -- the conflict's part is worked as halving does

@@ -16,18 +16,18 @@ use Rattle.hainscope.specs.Written.{verdict_of, number_of_verdict, stands_of_ver
 use Rattle.promises.proofs.Outcomes.{can_stand_too_much, can_stand_answered}
 
 module _ (t : List ℕ) where
-  pub read-accepted : (f : Frame) → reading t ≡ Accepted f → ReadCall t 0 0
+  pub read_accepted : (f : Frame) → reading t ≡ Accepted f → ReadCall t 0 0
   unfolding number_of_reading place_of_reading
-  read-accepted f e = record { number_is = rw e; place_is = rw e }
+  read_accepted f e = record { number_is = rw e; place_is = rw e }
 
-  pub read-refused : (refusal : Refusal) → reading t ≡ Refused refusal → ReadCall t refusal.number refusal.place
+  pub read_refused : (refusal : Refusal) → reading t ≡ Refused refusal → ReadCall t refusal.number refusal.place
   unfolding number_of_reading place_of_reading
-  read-refused refusal e = record { number_is = rw e; place_is = rw e }
+  read_refused refusal e = record { number_is = rw e; place_is = rw e }
 
   module _ (wanted : ℕ) where
-    pub body-found : (start size : ℕ) → stretch_of t wanted ≡ Found start size → BodyCall t wanted 0 size start
+    pub body_found : (start size : ℕ) → stretch_of t wanted ≡ Found start size → BodyCall t wanted 0 size start
     unfolding number_of_stretch place_of_stretch size_of_stretch
-    body-found start size e = record { number_is = rw e; size_is = rw e; place_is = rw e }
+    body_found start size e = record { number_is = rw e; size_is = rw e; place_is = rw e }
 
     pub body_missing : (refusal : Refusal) → stretch_of t wanted ≡ Missing refusal → BodyCall t wanted refusal.number 0 refusal.place
     unfolding number_of_stretch place_of_stretch size_of_stretch
@@ -49,13 +49,13 @@ module _ (t : List ℕ) (f : Frame) (selection : ℕ) where
   told_answer answer stands e s = (rw (← e), rw (← e) s)
 
 -- the question about an accepted table keeps its promise
-pub question-answered :
+pub question_answered :
     (t : List ℕ) (selection : ℕ) (f : Frame) (number stands : ℕ) →
     reading t ≡ Accepted f →
     (number ≡ number_of_verdict (verdict_of t f selection)) × (stands ≡ stands_of_verdict (verdict_of t f selection)) →
     CanStandCall t selection number stands 0
 unfolding number_of_verdict stands_of_verdict verdict_of
-question-answered t selection f number stands e (n, s) = by (names_above f.requests selection) refl
+question_answered t selection f number stands e (n, s) = by (names_above f.requests selection) refl
   where
     by : (high : Bool) → names_above f.requests selection ≡ high → CanStandCall t selection number stands 0
     by true h = rw (rw h at n, rw h at s) (can_stand_too_much t selection f e h)

@@ -22,7 +22,7 @@ use Rattle.report.specs.Written.{Written}
 use Rattle.report.proofs.InBuffer.{written_in_buffer, part_from}
 use Rattle.table.proofs.RecordsStand.{length-words}
 use Rattle.promises.specs.Reports.{kind_by, room_for, place_after}
-use Rattle.promises.proofs.Room.{room_within, room-enough}
+use Rattle.promises.proofs.Room.{room_within, room_enough}
 use Rattle.promises.specs.Calls.{no_room}
 use Rattle.hainscope.specs.Written.{table_answer, Ready, RecordWritten, AcceptedCall}
 
@@ -62,12 +62,12 @@ module _ (t : List ℕ) (f : Frame) (kept : Kept t f) (before order : List ℕ)
       record {
         kept = kept;
         numbers = rw loaded kept.order_is_in_range;
-        few = omega (arith, loaded_length, kept.few-requests);
+        few = omega (arith, loaded_length, kept.few_requests);
         each = l ∙ sym loaded_length;
       }
 
   -- and the answer over it, written as a record, is the table's
-  pub answer-written :
+  pub answer_written :
       (method : Method) (flags set : Selection) (status asked : ℕ) →
       length flags ≡ f.requests →
       Answers (answer_by method (question_of t f order) (length flags)) (length flags) set status asked →
@@ -75,7 +75,7 @@ module _ (t : List ℕ) (f : Frame) (kept : Kept t f) (before order : List ℕ)
       kind ≡ kind_by method →
       Written kind status asked order set part after end →
       RecordWritten method t f part after end
-  answer-written method flags set status asked l answers kind part after end k w =
+  answer_written method flags set status asked l answers kind part after end k w =
       let a : record { status = status; set = set; asked = asked } ≡ table_answer method t f =
       answers.is
       ∙ ap₂ (λ (o : List ℕ) (n : ℕ). answer_by method (question_of t f o) n) loaded l in
@@ -84,41 +84,41 @@ module _ (t : List ℕ) (f : Frame) (kept : Kept t f) (before order : List ℕ)
 
 module _ (method : Method) (t : List ℕ) (f : Frame) (buffer : List ℕ) (start : ℕ) (room : Bool)
     (e : room ≡ (leb start (length buffer) && leb (12 + 2 * f.requests) (length buffer - start))) where
-  is-room : room ≡ room_for f.requests buffer start
+  is_room : room ≡ room_for f.requests buffer start
   unfolding room_for
-  is-room = e
+  is_room = e
 
   -- there is no room
   pub no_room_left : room ≡ false → AcceptedCall method t f buffer start no_room 0 buffer
   no_room_left h =
       record {
         no_room = λ k. record { number_is = refl; place_is = refl; buffer_is = refl };
-        written = λ k. absurd (true≢false (sym k ∙ sym is-room ∙ h));
+        written = λ k. absurd (true≢false (sym k ∙ sym is_room ∙ h));
       }
 
   module _ (h : room ≡ true) where
     pub start_within : start ≤ length buffer
-    start_within = room_within f.requests buffer start (sym is-room ∙ h)
+    start_within = room_within f.requests buffer start (sym is_room ∙ h)
 
     pub enough : 12 + 2 * f.requests ≤ length buffer - start
-    enough = room-enough f.requests buffer start (sym is-room ∙ h)
+    enough = room_enough f.requests buffer start (sym is_room ∙ h)
 
     -- the part from the start on may be written to
     pub part_ready : Kept t f → Ready t f (take (length buffer - start) (drop start buffer))
     part_ready kept = record { kept = kept; room = rw (part_from buffer start, length-drop) enough }
 
     -- the record is written, and the rest of the buffer stays
-    pub report-written :
+    pub report_written :
         (after : List ℕ) (end : ℕ) →
         RecordWritten method t f (take (length buffer - start) (drop start buffer)) after end →
         AcceptedCall method t f buffer start 0 (start + end) (put_mid start (length buffer - start) buffer after)
-    report-written after end w =
+    report_written after end w =
         let p : start + end ≡ place_after t f start (table_answer method t f) = ap (λ (k : ℕ). start + k) w.ends in
         record {
-          no_room = λ k. absurd (true≢false (sym h ∙ is-room ∙ k));
+          no_room = λ k. absurd (true≢false (sym h ∙ is_room ∙ k));
           written = λ k. record { number_is = refl; place_is = p; buffer_is = rw p at (written_in_buffer buffer start w) };
         }
 
 -- the order has as many entries as there are requests
-pub order-long : (t : List ℕ) (f : Frame) → length (order_of t f) ≡ f.requests
-order-long t f = length-words f.requests t (f.order + 4)
+pub order_long : (t : List ℕ) (f : Frame) → length (order_of t f) ≡ f.requests
+order_long t f = length-words f.requests t (f.order + 4)

@@ -11,9 +11,9 @@ use Rattle.table.specs.Rows.{Row, rows, after}
 use Rattle.table.specs.Kept.{Kept, RowsKept, rows_of, first_row}
 use Rattle.meaning.specs.Meaning.{Setting, meets, role_of, counts, respects, meets_all}
 use Rattle.meaning.specs.Stands.{some_setting, stands, adding, has_rows}
-use Rattle.meaning.proofs.Tested.{every_more, every-same, either_more, any_member}
+use Rattle.meaning.proofs.Tested.{every_more, every_same, either_more, any_member}
 use Rattle.meaning.proofs.OneRow.{row_role, role_at}
-use Rattle.meaning.proofs.Standing.{meets-stands, stands-meets}
+use Rattle.meaning.proofs.Standing.{meets_stands, stands_meets}
 
 fewer_counted : (a b met : Bool) → (a ≡ true → b ≡ true) → cond b met true ≡ true → cond a met true ≡ true
 fewer_counted true b met h e = rw (h refl) at e
@@ -36,8 +36,8 @@ pub fewer_stand :
     stands rows v few ≡ true
 unfolding meets_all
 fewer_stand rows v few many more e =
-    let s = stands-meets rows v many e in
-    meets-stands rows v few _ s.each (every_more (respects many _) (respects few _) (fewer_respected few many more _) rows s.passes)
+    let s = stands_meets rows v many e in
+    meets_stands rows v few _ s.each (every_more (respects many _) (respects few _) (fewer_respected few many more _) rows s.passes)
 
 -- the roles of an accepted table's rows are in range
 pub roles_kept :
@@ -48,10 +48,10 @@ roles_kept v n t (suc k) at end kept row (Memᴰ.head e) = rw (e, role_at v n t 
 roles_kept v n t (suc k) at end kept row (Memᴰ.tail m) = roles_kept v n t k (after t at) end kept.1 row m
 
 module _ (one other : ℕ → Bool) where
-  same-counts : (role : ℕ) → (0 < role → one role ≡ other role) → counts one role ≡ counts other role
+  same_counts : (role : ℕ) → (0 < role → one role ≡ other role) → counts one role ≡ counts other role
   unfolding counts
-  same-counts zero h = refl
-  same-counts (suc role) h = rw (h (omega arith))
+  same_counts zero h = refl
+  same_counts (suc role) h = rw (h (omega arith))
 
   -- selections that agree on the requests that have rows have one answer
   pub same_on_rows :
@@ -61,8 +61,8 @@ module _ (one other : ℕ → Bool) where
   unfolding stands meets_all respects
   same_on_rows rows v h =
       ap (λ (test : Setting → Bool). some_setting v [] test)
-      (fun_ext (λ setting. every-same (respects one setting) (respects other setting) rows
-      (λ row m. ap (λ (counting : Bool). cond counting (meets setting row) true) (same-counts (role_of row) (h row m)))))
+      (fun_ext (λ setting. every_same (respects one setting) (respects other setting) rows
+      (λ row m. ap (λ (counting : Bool). cond counting (meets setting row) true) (same_counts (role_of row) (h row m)))))
 
   -- equal selections have one answer
   pub same_choice : (rows : List Row) (v : ℕ) → ((role : ℕ) → one role ≡ other role) → stands rows v one ≡ stands rows v other
@@ -76,7 +76,7 @@ module _ (one other : ℕ → Bool) where
       stands (rows_of t f) f.variables one ≡ stands (rows_of t f) f.variables other
   same_on_table t f kept h =
       same_on_rows (rows_of t f) f.variables
-      (λ row m more. h (role_of row) more (roles_kept f.variables f.requests t f.rows first_row f.order kept.rows-kept row m))
+      (λ row m more. h (role_of row) more (roles_kept f.variables f.requests t f.rows first_row f.order kept.rows_kept row m))
 
 -- a request without rows always holds: to add it changes nothing
 pub without_rows :

@@ -14,7 +14,7 @@ use Rattle.table.proofs.Runs.{words_turn}
 use Rattle.meaning.specs.Meaning.{any_of}
 use Rattle.meaning.specs.HalfMade.{Values}
 use Rattle.meaning.specs.States.{is_decided_true, may_be_true, must_be_true, state_of, literal_state, clause_state}
-use Rattle.meaning.proofs.Tested.{every-head, any_here}
+use Rattle.meaning.proofs.Tested.{every_head, any_here}
 use Rattle.meaning.proofs.States.{state_always, always_must, not_always}
 use Rattle.table.proofs.Steps.{both}
 
@@ -54,7 +54,7 @@ module _ (t : List ℕ) (at left : ℕ) (more : 0 < left) where
   unfolding within
   literal_named high e =
       let p : (within 0 high (u16_at t at) ≡ true) × (every (within 0 high) (words (left - 1) t (at + 2)) ≡ true) =
-      every-head (within 0 high) (u16_at t at) (words (left - 1) t (at + 2)) (rw (words_turn left t at more) at e) in
+      every_head (within 0 high) (u16_at t at) (words (left - 1) t (at + 2)) (rw (words_turn left t at more) at e) in
       (ltb-true (u16_at t at) high (both (leb 0 (u16_at t at)) (ltb (u16_at t at) high) p.0).1, p.1)
 
 -- how far the loop has come: no literal so far must be true, and the state tells whether one may be

@@ -84,8 +84,8 @@ at_most x y = diff_le x y (over x) (under x) (over y) (under y) (diff_sides x) (
 less : (x y : ℤ) → le_z x y ≡ true → over x + under y ≤ under x + over y
 less x y e = leb-true (over x + under y) (under x + over y) (sym (at_most x y) ∙ e)
 
-pub same-le : (x : ℤ) → le_z x x ≡ true
-same-le x = at_most x x ∙ le-leb (over x + under x) (under x + over x) (omega arith)
+pub same_le : (x : ℤ) → le_z x x ≡ true
+same_le x = at_most x x ∙ le-leb (over x + under x) (under x + over x) (omega arith)
 
 pub le-le : (x y z : ℤ) → le_z x y ≡ true → le_z y z ≡ true → le_z x z ≡ true
 le-le x y z p q = at_most x z ∙ le-leb (over x + under z) (under x + over z) (omega (arith, less x y p, less y z q))

@@ -35,20 +35,20 @@ settled_agrees values = record { each = settled_length values; decided = λ vari
 pub none_beyond : (values : Values) (variable : ℕ) → length values ≤ variable → is_free values variable ≡ false
 none_beyond values variable beyond = rw (get_or-eq_default values 0 {n = variable} beyond)
 
-pub free-below : (values : Values) → ((other : ℕ) → other < length values → is_free values other ≡ false) → (other : ℕ) → is_free values other ≡ false
-free-below values none other = go (ltb other (length values)) refl
+pub free_below : (values : Values) → ((other : ℕ) → other < length values → is_free values other ≡ false) → (other : ℕ) → is_free values other ≡ false
+free_below values none other = go (ltb other (length values)) refl
   where
     go : (less : Bool) → ltb other (length values) ≡ less → is_free values other ≡ false
     go true p = none other (ltb-true other (length values) p)
     go false p = none_beyond values other (ltb-false other (length values) p)
 
 -- where none is decided, every setting of that length agrees
-pub free-agrees :
+pub free_agrees :
     (values : Values) (setting : Setting) →
     length setting ≡ length values →
     ((other : ℕ) → other < length values → get_or values other 0 ≡ 2) →
     Agrees values setting
-free-agrees values setting h free = record { each = h; decided = λ variable decided. go variable decided (ltb variable (length values)) refl }
+free_agrees values setting h free = record { each = h; decided = λ variable decided. go variable decided (ltb variable (length values)) refl }
   where
     go :
         (variable : ℕ) →
@@ -64,8 +64,8 @@ free-agrees values setting h free = record { each = h; decided = λ variable dec
         rw (get_or-eq_default values 0 {n = variable} above) (get_or-eq_default setting false {n = variable} (omega arith))
 
 -- a list of which no entry is decided
-pub all-free : (most v : ℕ) → v ≤ most → (other : ℕ) → other < length (take v (replicate {A = ℕ} most 2)) → get_or (take v (replicate {A = ℕ} most 2)) other 0 ≡ 2
-all-free most v h other below =
+pub all_free : (most v : ℕ) → v ≤ most → (other : ℕ) → other < length (take v (replicate {A = ℕ} most 2)) → get_or (take v (replicate {A = ℕ} most 2)) other 0 ≡ 2
+all_free most v h other below =
     let long : length (take v (replicate {A = ℕ} most 2)) ≡ v = length-take-le v (replicate {A = ℕ} most 2) (omega (arith, length-replicate {A = ℕ} most 2)) in
     rw (get_or-take v (replicate {A = ℕ} most 2) other 0 (omega arith)) (get_or-replicate {A = ℕ} most other 2 0 (omega arith))
 
@@ -81,10 +81,10 @@ one_at_most true = omega arith
 one_at_most false = omega arith
 
 -- at most all are undecided
-pub undecided-most : (values : Values) → undecided values ≤ length values
+pub undecided_most : (values : Values) → undecided values ≤ length values
 unfolding undecided
-undecided-most [] = omega arith
-undecided-most (x ∷ more) = omega (arith, one_at_most (eqb x 2), undecided-most more)
+undecided_most [] = omega arith
+undecided_most (x ∷ more) = omega (arith, one_at_most (eqb x 2), undecided_most more)
 
 -- one more at most where one variable is changed
 pub undecided_changed : (values : Values) (variable value : ℕ) → undecided (set values variable value) ≤ suc (undecided values)

@@ -57,12 +57,12 @@ pub record LinearKept (v n : ℕ) (t : List ℕ) (at : ℕ) : Type 0 where
   pub kind : kind_at t at ≡ Linear
   pub long : 6 ≤ length_at t at
   pub role : u16_at t (at + 4) ≤ n
-  pub row-terms : every (term_in_range v) (terms ((length_at t at - 6) / 6) t (at + 10)) ≡ true
+  pub row_terms : every (term_in_range v) (terms ((length_at t at - 6) / 6) t (at + 10)) ≡ true
 
 module _ (v n : ℕ) (t : List ℕ) (at : ℕ) (kept : RowKept v n t at) where
-  pub clause-kept : u16_at t (at + 2) ≡ 2 → ClauseKept v n t at
+  pub clause_kept : u16_at t (at + 2) ≡ 2 → ClauseKept v n t at
   unfolding length_right row_in_range row_of clause_at
-  clause-kept e =
+  clause_kept e =
       let k : kind_at t at ≡ Clause = kind_two (u16_at t (at + 2)) e in
       let right : (leb 2 (length_at t at) && leb (length_at t at) (2 + 2 * most_literals) && eqb (length_at t at % 2) 0) ≡ true = rw k at kept.right in
       let range : row_in_range v n (clause_at t at) ≡ true = rw k at kept.is_in_range in
@@ -74,9 +74,9 @@ module _ (v n : ℕ) (t : List ℕ) (at : ℕ) (kept : RowKept v n t at) where
         literals = parts.1;
       }
 
-  pub linear-kept : (u16_at t (at + 2) ≡ 2 → ⊥) → LinearKept v n t at
+  pub linear_kept : (u16_at t (at + 2) ≡ 2 → ⊥) → LinearKept v n t at
   unfolding length_right row_in_range row_of linear_at
-  linear-kept other =
+  linear_kept other =
       let k : kind_at t at ≡ Linear = kind_other (u16_at t (at + 2)) kept.row other in
       let right : (leb 6 (length_at t at) && leb (length_at t at) (6 + 6 * most_terms) && eqb (length_at t at % 6) 0) ≡ true = rw k at kept.right in
       let range : row_in_range v n (linear_at t at) ≡ true = rw k at kept.is_in_range in
@@ -85,7 +85,7 @@ module _ (v n : ℕ) (t : List ℕ) (at : ℕ) (kept : RowKept v n t at) where
         kind = k;
         long = leb-true 6 (length_at t at) (both _ _ (both _ _ right).0).0;
         role = leb-true (u16_at t (at + 4)) n parts.0;
-        row-terms = parts.1;
+        row_terms = parts.1;
       }
 
   -- a row is one or the other
@@ -93,12 +93,12 @@ module _ (v n : ℕ) (t : List ℕ) (at : ℕ) (kept : RowKept v n t at) where
   either_kept = go (eqb (u16_at t (at + 2)) 2) refl
     where
       go : (two : Bool) → eqb (u16_at t (at + 2)) 2 ≡ two → ClauseKept v n t at ⊎ LinearKept v n t at
-      go true e = inl (clause-kept (eqb-true (u16_at t (at + 2)) 2 e))
-      go false e = inr (linear-kept (eqb-false (u16_at t (at + 2)) 2 e))
+      go true e = inl (clause_kept (eqb-true (u16_at t (at + 2)) 2 e))
+      go false e = inr (linear_kept (eqb-false (u16_at t (at + 2)) 2 e))
 
   -- a row has its role, in range
-  pub row-long : 2 ≤ length_at t at
-  row-long = ⊎_elim (λ c. c.long) (λ l. let h : 6 ≤ length_at t at = l.long in omega arith) either_kept
+  pub row_long : 2 ≤ length_at t at
+  row_long = ⊎_elim (λ c. c.long) (λ l. let h : 6 ≤ length_at t at = l.long in omega arith) either_kept
 
   pub row_role : u16_at t (at + 4) ≤ n
   row_role = ⊎_elim (λ c. c.role) (λ l. l.role) either_kept
@@ -109,28 +109,28 @@ module _ (v n : ℕ) (t : List ℕ) (at : ℕ) (kept : RowKept v n t at) where
 
 module _ (t : List ℕ) (at variables : ℕ) (asked : RowAsked t at variables) (body : ℕ) (size : body ≡ length_at t at) where
   -- its literals stand in the table, and each names a variable
-  pub clause-asked : u16_at t (at + 2) ≡ 2 → LiteralsAsked t (at + 6) ((body - 2) / 2) variables
-  clause-asked two =
-      let kept : ClauseKept variables asked.requests t at = clause-kept variables asked.requests t at asked.row_kept two in
+  pub clause_asked : u16_at t (at + 2) ≡ 2 → LiteralsAsked t (at + 6) ((body - 2) / 2) variables
+  clause_asked two =
+      let kept : ClauseKept variables asked.requests t at = clause_kept variables asked.requests t at asked.row_kept two in
       record { whole = omega (arith, asked.row_kept.whole, kept.long); named = rw size kept.literals }
 
   -- its bound and its terms stand in the table, and each term names a variable
-  pub linear-long : (u16_at t (at + 2) ≡ 2 → ⊥) → (6 ≤ body) × (at + 6 + 3 < length t)
-  linear-long other =
-      let kept : LinearKept variables asked.requests t at = linear-kept variables asked.requests t at asked.row_kept other in
+  pub linear_long : (u16_at t (at + 2) ≡ 2 → ⊥) → (6 ≤ body) × (at + 6 + 3 < length t)
+  linear_long other =
+      let kept : LinearKept variables asked.requests t at = linear_kept variables asked.requests t at asked.row_kept other in
       (omega (arith, kept.long), omega (arith, asked.row_kept.whole, kept.long))
 
-  pub linear-asked : (u16_at t (at + 2) ≡ 2 → ⊥) → body < 65536 → TermsAsked t (at + 10) ((body - 6) / 6) variables
-  linear-asked other small =
-      let kept : LinearKept variables asked.requests t at = linear-kept variables asked.requests t at asked.row_kept other in
-      record { whole = omega (arith, asked.row_kept.whole, kept.long); few = omega arith; named = rw size kept.row-terms }
+  pub linear_asked : (u16_at t (at + 2) ≡ 2 → ⊥) → body < 65536 → TermsAsked t (at + 10) ((body - 6) / 6) variables
+  linear_asked other small =
+      let kept : LinearKept variables asked.requests t at = linear_kept variables asked.requests t at asked.row_kept other in
+      record { whole = omega (arith, asked.row_kept.whole, kept.long); few = omega arith; named = rw size kept.row_terms }
 
   -- a clause
   pub clause_tested :
       u16_at t (at + 2) ≡ 2 →
       (values : Values) (state : ℕ) → state ≡ clause_state values (words ((body - 2) / 2) t (at + 6)) → state ≡ row_state values (row_at t at)
   unfolding row_state row_of clause_at
-  clause_tested two values state e = rw ((clause-kept variables asked.requests t at asked.row_kept two).kind, ← size) e
+  clause_tested two values state e = rw ((clause_kept variables asked.requests t at asked.row_kept two).kind, ← size) e
 
   -- a linear row
   pub linear_tested :
@@ -140,7 +140,7 @@ module _ (t : List ℕ) (at variables : ℕ) (asked : RowAsked t at variables) (
       state ≡ linear_state values (to_z w32 bound) (terms ((body - 6) / 6) t (at + 10)) →
       state ≡ row_state values (row_at t at)
   unfolding row_state row_of linear_at i32_at
-  linear_tested other values state bound f e = rw ((linear-kept variables asked.requests t at asked.row_kept other).kind, ← size, ← f) e
+  linear_tested other values state bound f e = rw ((linear_kept variables asked.requests t at asked.row_kept other).kind, ← size, ← f) e
 
 -- where more rows may be read, fewer may
 pub asked_fewer : (t places : List ℕ) (few many variables : ℕ) → few ≤ many → RowsAsked t places many variables → RowsAsked t places few variables

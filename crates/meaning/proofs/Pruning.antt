@@ -12,7 +12,7 @@ use Rattle.table.specs.Rows.{Term, Row, clause, linear}
 use Rattle.meaning.specs.Meaning.{Setting, is_one, is_true, value_of, product, sum_of, meets}
 use Rattle.meaning.specs.HalfMade.{Values, is_free, is_set, Agrees}
 use Rattle.meaning.specs.States.{is_decided_true, may_be_true, must_be_true, negative_of, positive_of, at_end, sum_at_end, clause_state, linear_state, row_state}
-use Rattle.meaning.proofs.Differences.{same-le, le-le, sums-le}
+use Rattle.meaning.proofs.Differences.{same_le, le-le, sums-le}
 use Rattle.meaning.proofs.Tested.{any_more}
 use Rattle.meaning.proofs.States.{never_holds, always_holds, otherwise_holds}
 
@@ -26,19 +26,19 @@ product_is setting term = go (is_one setting term.variable)
     go false = *ℤ-zero term.weight
 
 -- with its variable free, a term lies between these, whatever value the variable gets
-free-least : (weight : ℤ) (value : Bool) → le_z (negative_of weight) (cond value weight (pos 0)) ≡ true
+free_least : (weight : ℤ) (value : Bool) → le_z (negative_of weight) (cond value weight (pos 0)) ≡ true
 unfolding negative_of
-free-least (pos n) true = le-leb 0 n (omega arith)
-free-least (pos n) false = refl
-free-least (negsuc n) true = same-le (negsuc n)
-free-least (negsuc n) false = refl
+free_least (pos n) true = le-leb 0 n (omega arith)
+free_least (pos n) false = refl
+free_least (negsuc n) true = same_le (negsuc n)
+free_least (negsuc n) false = refl
 
-free-most : (weight : ℤ) (value : Bool) → le_z (cond value weight (pos 0)) (positive_of weight) ≡ true
+free_most : (weight : ℤ) (value : Bool) → le_z (cond value weight (pos 0)) (positive_of weight) ≡ true
 unfolding positive_of
-free-most (pos n) true = same-le (pos n)
-free-most (pos n) false = le-leb 0 n (omega arith)
-free-most (negsuc n) true = refl
-free-most (negsuc n) false = refl
+free_most (pos n) true = same_le (pos n)
+free_most (pos n) false = le-leb 0 n (omega arith)
+free_most (negsuc n) true = refl
+free_most (negsuc n) false = refl
 
 -- the setting is a completion: it has the decided values
 module _ (values : Values) (setting : Setting) (agrees : Agrees values setting) where
@@ -83,33 +83,33 @@ module _ (values : Values) (setting : Setting) (agrees : Agrees values setting) 
       go true p = free term.weight (is_one setting term.variable)
       go false p = rw (agrees.decided term.variable p) (same (cond (is_set values term.variable) term.weight (pos 0)))
 
-  least-sum : (ts : List Term) → le_z (sum_at_end negative_of values ts) (sum_of setting ts) ≡ true
+  least_sum : (ts : List Term) → le_z (sum_at_end negative_of values ts) (sum_of setting ts) ≡ true
   unfolding sum_at_end sum_of
-  least-sum [] = refl
-  least-sum (term ∷ more) =
+  least_sum [] = refl
+  least_sum (term ∷ more) =
       sums-le (at_end negative_of values term) (product setting term) (sum_at_end negative_of values more) (sum_of setting more)
-      (between negative_of (λ x y. le_z x y ≡ true) same-le free-least term)
-      (least-sum more)
+      (between negative_of (λ x y. le_z x y ≡ true) same_le free_least term)
+      (least_sum more)
 
-  most-sum : (ts : List Term) → le_z (sum_of setting ts) (sum_at_end positive_of values ts) ≡ true
+  most_sum : (ts : List Term) → le_z (sum_of setting ts) (sum_at_end positive_of values ts) ≡ true
   unfolding sum_at_end sum_of
-  most-sum [] = refl
-  most-sum (term ∷ more) =
+  most_sum [] = refl
+  most_sum (term ∷ more) =
       sums-le (product setting term) (at_end positive_of values term) (sum_of setting more) (sum_at_end positive_of values more)
-      (between positive_of (λ x y. le_z y x ≡ true) same-le free-most term)
-      (most-sum more)
+      (between positive_of (λ x y. le_z y x ≡ true) same_le free_most term)
+      (most_sum more)
 
   -- no completion meets a row in state 2
   pub no_completion_meets : (row : Row) → 1 < row_state values row → meets setting row ≡ true → ⊥
   unfolding row_state clause_state linear_state meets
   no_completion_meets (clause role literals) = never_holds _ _ _ (any_more (is_true setting) (may_be_true values) true_may_be literals)
-  no_completion_meets (linear role bound ts) = never_holds _ _ _ (le-le (sum_at_end negative_of values ts) (sum_of setting ts) bound (least-sum ts))
+  no_completion_meets (linear role bound ts) = never_holds _ _ _ (le-le (sum_at_end negative_of values ts) (sum_of setting ts) bound (least_sum ts))
 
   -- every completion meets a row in state 0
   pub every_completion_meets : (row : Row) → 0 ≡ row_state values row → meets setting row ≡ true
   unfolding row_state clause_state linear_state meets
   every_completion_meets (clause role literals) = always_holds _ _ _ (any_more (must_be_true values) (is_true setting) must_be_true_lem literals)
-  every_completion_meets (linear role bound ts) = always_holds _ _ _ (le-le (sum_of setting ts) (sum_at_end positive_of values ts) bound (most-sum ts))
+  every_completion_meets (linear role bound ts) = always_holds _ _ _ (le-le (sum_of setting ts) (sum_at_end positive_of values ts) bound (most_sum ts))
 
   -- with no variable free
   module _ (none : (variable : ℕ) → is_free values variable ≡ false) where
@@ -127,10 +127,10 @@ module _ (values : Values) (setting : Setting) (agrees : Agrees values setting) 
     sum_exact (term ∷ more) = ap₂ (λ (x y : ℤ). x +ℤ y) (term_exact term) (sum_exact more)
 
     -- the one completion meets every row that is not in state 2
-    pub decided-meets : (row : Row) → row_state values row ≤ 1 → meets setting row ≡ true
+    pub decided_meets : (row : Row) → row_state values row ≤ 1 → meets setting row ≡ true
     unfolding row_state clause_state linear_state meets
-    decided-meets (clause role literals) =
+    decided_meets (clause role literals) =
         otherwise_holds _ _ _ (any_more (may_be_true values) (is_true setting) may_be_true_lem literals)
         (any_more (must_be_true values) (is_true setting) must_be_true_lem literals)
-    decided-meets (linear role bound ts) =
-        otherwise_holds _ _ _ (λ e. rw (sum_exact ts) at e) (le-le (sum_of setting ts) (sum_at_end positive_of values ts) bound (most-sum ts))
+    decided_meets (linear role bound ts) =
+        otherwise_holds _ _ _ (λ e. rw (sum_exact ts) at e) (le-le (sum_of setting ts) (sum_at_end positive_of values ts) bound (most_sum ts))

@@ -29,13 +29,13 @@ module _ (test : Setting → Bool) where
   counted_on m k e p = record { setting = p.setting; each = p.each ∙ e; passes = p.passes }
 
   -- where some setting with these decided values passes, there is one
-  some-passes : (n : ℕ) (decided : Setting) → some_setting n decided test ≡ true → Passing test (n + length decided)
+  some_passes : (n : ℕ) (decided : Setting) → some_setting n decided test ≡ true → Passing test (n + length decided)
   unfolding some_setting
-  some-passes zero decided e = record { setting = decided; each = omega arith; passes = e }
-  some-passes (suc n) decided e =
+  some_passes zero decided e = record { setting = decided; each = omega arith; passes = e }
+  some_passes (suc n) decided e =
       of_either (some_setting n (false ∷ decided) test) (some_setting n (true ∷ decided) test) (suc n + length decided) e
-      (λ zeroth. counted_on (n + length (false ∷ decided)) (suc n + length decided) (omega arith) (some-passes n (false ∷ decided) zeroth))
-      (λ first. counted_on (n + length (true ∷ decided)) (suc n + length decided) (omega arith) (some-passes n (true ∷ decided) first))
+      (λ zeroth. counted_on (n + length (false ∷ decided)) (suc n + length decided) (omega arith) (some_passes n (false ∷ decided) zeroth))
+      (λ first. counted_on (n + length (true ∷ decided)) (suc n + length decided) (omega arith) (some_passes n (true ∷ decided) first))
 
   either_value : (f : Bool → Bool) (value : Bool) → f value ≡ true → (f false || f true) ≡ true
   either_value f false e = rw e
@@ -46,17 +46,17 @@ module _ (test : Setting → Bool) where
   next_value n s h e = drop-cons s n false h ∙ ap (λ (l : Setting). get_or s n false ∷ l) e
 
   -- where one setting with these decided values passes, some setting does
-  passes-some : (n : ℕ) (decided s : Setting) → n ≤ length s → drop n s ≡ decided → test s ≡ true → some_setting n decided test ≡ true
+  passes_some : (n : ℕ) (decided s : Setting) → n ≤ length s → drop n s ≡ decided → test s ≡ true → some_setting n decided test ≡ true
   unfolding some_setting
-  passes-some zero decided s h e p = rw (← e) p
-  passes-some (suc n) decided s h e p =
+  passes_some zero decided s h e p = rw (← e) p
+  passes_some (suc n) decided s h e p =
       either_value (λ (value : Bool). some_setting n (value ∷ decided) test) (get_or s n false)
-      (passes-some n (get_or s n false ∷ decided) s (omega arith) (next_value n s (omega arith) e) p)
+      (passes_some n (get_or s n false ∷ decided) s (omega arith) (next_value n s (omega arith) e) p)
 
 module _ (rows : List Row) (v : ℕ) (chosen : ℕ → Bool) where
-  counted-meets : (setting : Setting) (row : Row) → respects chosen setting row ≡ true → counts chosen (role_of row) ≡ true → meets setting row ≡ true
+  counted_meets : (setting : Setting) (row : Row) → respects chosen setting row ≡ true → counts chosen (role_of row) ≡ true → meets setting row ≡ true
   unfolding respects
-  counted-meets setting row e c = rw c at e
+  counted_meets setting row e c = rw c at e
 
   respected :
       (setting : Setting) (row : Row) (counting : Bool) →
@@ -76,22 +76,22 @@ module _ (rows : List Row) (v : ℕ) (chosen : ℕ → Bool) where
       go false p e = inr e
 
   -- a setting that meets all that counts, in the two ways to say it
-  pub meets-each : (setting : Setting) → length setting ≡ v → meets_all chosen setting rows ≡ true → Meeting rows v chosen setting
+  pub meets_each : (setting : Setting) → length setting ≡ v → meets_all chosen setting rows ≡ true → Meeting rows v chosen setting
   unfolding meets_all counts
-  meets-each setting h e =
+  meets_each setting h e =
       record {
         each = h;
-        meets-host = λ row m host. counted-meets setting row (every_member (respects chosen setting) row rows e m) (rw (eq-eqb (role_of row) 0 host));
-        meets-chosen = λ row m is. counted-meets setting row (every_member (respects chosen setting) row rows e m) (rw is (or-true (eqb (role_of row) 0)));
+        meets_host = λ row m host. counted_meets setting row (every_member (respects chosen setting) row rows e m) (rw (eq-eqb (role_of row) 0 host));
+        meets_chosen = λ row m is. counted_meets setting row (every_member (respects chosen setting) row rows e m) (rw is (or-true (eqb (role_of row) 0)));
       }
 
-  pub each-meets : (setting : Setting) → Meeting rows v chosen setting → meets_all chosen setting rows ≡ true
+  pub each_meets : (setting : Setting) → Meeting rows v chosen setting → meets_all chosen setting rows ≡ true
   unfolding meets_all
-  each-meets setting m = member_every (respects chosen setting) rows (λ row here. one row here (counts chosen (role_of row)) refl)
+  each_meets setting m = member_every (respects chosen setting) rows (λ row here. one row here (counts chosen (role_of row)) refl)
     where
       met : (row : Row) → Memᴰ row rows → (role_of row ≡ 0) ⊎ (chosen (role_of row) ≡ true) → meets setting row ≡ true
-      met row here (inl host) = m.meets-host row here host
-      met row here (inr is) = m.meets-chosen row here is
+      met row here (inl host) = m.meets_host row here host
+      met row here (inr is) = m.meets_chosen row here is
 
       one : (row : Row) → Memᴰ row rows → (counting : Bool) → counts chosen (role_of row) ≡ counting → respects chosen setting row ≡ true
       one row here counting e = respected setting row counting e (λ c. met row here (counted (role_of row) c))
@@ -101,18 +101,18 @@ module _ (rows : List Row) (v : ℕ) (chosen : ℕ → Bool) where
   nothing_above setting h = drop_of_length-le setting {i = v} (omega arith)
 
   -- the selection stands where a setting meets all that counts
-  pub meets-stands : (setting : Setting) → length setting ≡ v → meets_all chosen setting rows ≡ true → stands rows v chosen ≡ true
+  pub meets_stands : (setting : Setting) → length setting ≡ v → meets_all chosen setting rows ≡ true → stands rows v chosen ≡ true
   unfolding stands
-  meets-stands setting h e = passes-some (λ s. meets_all chosen s rows) v [] setting (omega arith) (nothing_above setting h) e
+  meets_stands setting h e = passes_some (λ s. meets_all chosen s rows) v [] setting (omega arith) (nothing_above setting h) e
 
   -- where it stands, there is such a setting
-  pub stands-meets : stands rows v chosen ≡ true → Passing (λ setting. meets_all chosen setting rows) v
+  pub stands_meets : stands rows v chosen ≡ true → Passing (λ setting. meets_all chosen setting rows) v
   unfolding stands
-  stands-meets e = counted_on _ (v + length {A = Bool} []) v (omega arith) (some-passes (λ setting. meets_all chosen setting rows) v [] e)
+  stands_meets e = counted_on _ (v + length {A = Bool} []) v (omega arith) (some_passes (λ setting. meets_all chosen setting rows) v [] e)
 
   -- the law for readers: a selection stands exactly where there is a setting of v values that meets every host row and every row of a chosen request
-  pub stands-exactly : (stands rows v chosen ≡ true) ↔ ((setting : Setting) × Meeting rows v chosen setting)
-  stands-exactly = (
-    λ e. let found = stands-meets e in (found.setting, meets-each found.setting found.each found.passes),
-    λ p. meets-stands p.0 p.1.each (each-meets p.0 p.1),
+  pub stands_exactly : (stands rows v chosen ≡ true) ↔ ((setting : Setting) × Meeting rows v chosen setting)
+  stands_exactly = (
+    λ e. let found = stands_meets e in (found.setting, meets_each found.setting found.each found.passes),
+    λ p. meets_stands p.0 p.1.each (each_meets p.0 p.1),
   )

@@ -20,7 +20,7 @@ use Rattle.table.proofs.Runs.{terms_turn}
 use Rattle.meaning.specs.Meaning.{value_of}
 use Rattle.meaning.specs.HalfMade.{Values}
 use Rattle.meaning.specs.States.{negative_of, positive_of, at_end, sum_at_end, linear_state, EndsTold}
-use Rattle.meaning.proofs.Tested.{every-head}
+use Rattle.meaning.proofs.Tested.{every_head}
 use Rattle.meaning.proofs.States.{state_always, state_open, state_never}
 use Rattle.table.proofs.Steps.{both}
 use Rattle.meaning.proofs.Differences.{Diff, diff_add, diff_le, diff_raised, raised_diff}
@@ -36,11 +36,11 @@ raised_by_half bits h = go (ltb bits 2147483648) refl
         rw (p, le-ltb 2147483648 (suc (4294967296 - suc bits)) (omega arith)) (ap pos (omega arith))
 
 -- how often a weight counts, by products instead of tests
-pub counted-small : (free : ℕ) (undecided one : Bool) → free ≤ 1 → (free * bool_byte undecided ≤ 1) × (bool_byte one ≤ 1)
-counted-small free true true h = (rw (mul-one free) h, omega arith)
-counted-small free true false h = (rw (mul-one free) h, omega arith)
-counted-small free false true h = (rw (mul-zero free) (omega arith), omega arith)
-counted-small free false false h = (rw (mul-zero free) (omega arith), omega arith)
+pub counted_small : (free : ℕ) (undecided one : Bool) → free ≤ 1 → (free * bool_byte undecided ≤ 1) × (bool_byte one ≤ 1)
+counted_small free true true h = (rw (mul-one free) h, omega arith)
+counted_small free true false h = (rw (mul-one free) h, omega arith)
+counted_small free false true h = (rw (mul-zero free) (omega arith), omega arith)
+counted_small free false false h = (rw (mul-zero free) (omega arith), omega arith)
 
 pub counted_by_products : (value free : ℕ) → free * bool_byte (eqb value 2) + bool_byte (eqb value 1) ≡ cond (eqb value 2) free (value_of (eqb value 1))
 unfolding value_of
@@ -95,7 +95,7 @@ module _ (bits : ℕ) (fits : bits < 4294967296) where
           rw (q, zero_times, p) (refl, omega arith)
 
   -- the weight counts as often as it should
-  pub weight-counts :
+  pub weight_counts :
       (side : ℤ → ℤ) (t : List ℕ) (at : ℕ) (values : Values) (variable often free : ℕ) →
       variable ≡ u16_at t at →
       bits ≡ u32_at t (at + 2) →
@@ -103,7 +103,7 @@ module _ (bits : ℕ) (fits : bits < 4294967296) where
       (to_z w32 (bits * free) ≡ side (to_z w32 bits)) × (bits * free < 4294967296) →
       (to_z w32 (bits * often) ≡ at_end side values (term_at t at)) × (bits * often < 4294967296)
   unfolding at_end term_at i32_at value_of
-  weight-counts side t at values variable often free named read tested right =
+  weight_counts side t at values variable often free named read tested right =
       rw (← named, ← read, tested) (go (eqb (get_or values variable 0) 2) (eqb (get_or values variable 0) 1))
     where
       go :
@@ -163,7 +163,7 @@ module _ (t : List ℕ) (at left : ℕ) (more : 0 < left) where
   unfolding term_at
   term_named v e =
       let p : (term_in_range v (term_at t at) ≡ true) × (every (term_in_range v) (terms (left - 1) t (at + 6)) ≡ true) =
-      every-head (term_in_range v) (term_at t at) (terms (left - 1) t (at + 6)) (rw (terms_turn left t at more) at e) in
+      every_head (term_in_range v) (term_at t at) (terms (left - 1) t (at + 6)) (rw (terms_turn left t at more) at e) in
       (term_names v (term_at t at) p.0, p.1)
 
 -- how far the loop has come: what is added up so far, as a difference, with what is left makes the whole
@@ -222,24 +222,24 @@ compared sum bound total highest count e f =
     (diff_raised sum total (2147483648 * count) e) (diff_raised bound highest 2147483648 f)))
 
 -- each way out of the test of a linear row
-module _ (values : Values) (bound : ℤ) (row-terms : List Term) (count least most highest : ℕ)
-    (told : EndsTold values row-terms count least most) (raised : pos highest ≡ bound +ℤ pos 2147483648) where
-  most_at_most : leb (most + 2147483648) (highest + 2147483648 * count) ≡ le_z (sum_at_end positive_of values row-terms) bound
-  most_at_most = compared (sum_at_end positive_of values row-terms) bound most highest count told.most_told raised
+module _ (values : Values) (bound : ℤ) (row_terms : List Term) (count least most highest : ℕ)
+    (told : EndsTold values row_terms count least most) (raised : pos highest ≡ bound +ℤ pos 2147483648) where
+  most_at_most : leb (most + 2147483648) (highest + 2147483648 * count) ≡ le_z (sum_at_end positive_of values row_terms) bound
+  most_at_most = compared (sum_at_end positive_of values row_terms) bound most highest count told.most_told raised
 
-  least_at_most : leb (least + 2147483648) (highest + 2147483648 * count) ≡ le_z (sum_at_end negative_of values row-terms) bound
-  least_at_most = compared (sum_at_end negative_of values row-terms) bound least highest count told.least_told raised
+  least_at_most : leb (least + 2147483648) (highest + 2147483648 * count) ≡ le_z (sum_at_end negative_of values row_terms) bound
+  least_at_most = compared (sum_at_end negative_of values row_terms) bound least highest count told.least_told raised
 
-  pub linear_always : most + 2147483648 ≤ highest + 2147483648 * count → 0 ≡ linear_state values bound row-terms
+  pub linear_always : most + 2147483648 ≤ highest + 2147483648 * count → 0 ≡ linear_state values bound row_terms
   unfolding linear_state
   linear_always within = state_always _ _ (sym most_at_most ∙ le-leb _ _ within)
 
   pub linear_open :
-      highest + 2147483648 * count < most + 2147483648 → least + 2147483648 ≤ highest + 2147483648 * count → 1 ≡ linear_state values bound row-terms
+      highest + 2147483648 * count < most + 2147483648 → least + 2147483648 ≤ highest + 2147483648 * count → 1 ≡ linear_state values bound row_terms
   unfolding linear_state
   linear_open beyond within = state_open _ _ (sym least_at_most ∙ le-leb _ _ within) (sym most_at_most ∙ lt-leb _ _ beyond)
 
   pub linear_never :
-      highest + 2147483648 * count < most + 2147483648 → highest + 2147483648 * count < least + 2147483648 → 2 ≡ linear_state values bound row-terms
+      highest + 2147483648 * count < most + 2147483648 → highest + 2147483648 * count < least + 2147483648 → 2 ≡ linear_state values bound row_terms
   unfolding linear_state
   linear_never beyond least-beyond = state_never _ _ (sym least_at_most ∙ lt-leb _ _ least-beyond) (sym most_at_most ∙ lt-leb _ _ beyond)

@@ -30,9 +30,9 @@ equal_answers false true f g = g refl
 equal_answers false false f g = refl
 
 module _ {A : Type 0} where
-  pub every-head : (test : A → Bool) (x : A) (xs : List A) → every test (x ∷ xs) ≡ true → (test x ≡ true) × (every test xs ≡ true)
+  pub every_head : (test : A → Bool) (x : A) (xs : List A) → every test (x ∷ xs) ≡ true → (test x ≡ true) × (every test xs ≡ true)
   unfolding every
-  every-head test x xs e = both (test x) (every test xs) e
+  every_head test x xs e = both (test x) (every test xs) e
 
   -- a test that passes more passes every list that the other passes
   pub every_more : (few many : A → Bool) → ((x : A) → few x ≡ true → many x ≡ true) → (xs : List A) → every few xs ≡ true → every many xs ≡ true
@@ -43,11 +43,11 @@ module _ {A : Type 0} where
       together (h x p.0) (every_more few many h xs p.1)
 
   -- tests that agree on the elements of a list agree on the list
-  pub every-same : (one other : A → Bool) (xs : List A) → ((x : A) → Memᴰ x xs → one x ≡ other x) → every one xs ≡ every other xs
+  pub every_same : (one other : A → Bool) (xs : List A) → ((x : A) → Memᴰ x xs → one x ≡ other x) → every one xs ≡ every other xs
   unfolding every
-  every-same one other [] h = refl
-  every-same one other (x ∷ xs) h =
-      ap₂ (λ (a b : Bool). a && b) (h x (Memᴰ.head refl)) (every-same one other xs (λ y m. h y (Memᴰ.tail m)))
+  every_same one other [] h = refl
+  every_same one other (x ∷ xs) h =
+      ap₂ (λ (a b : Bool). a && b) (h x (Memᴰ.head refl)) (every_same one other xs (λ y m. h y (Memᴰ.tail m)))
 
   -- each element of a list that passes whole
   pub every_member : (test : A → Bool) (x : A) (xs : List A) → every test xs ≡ true → Memᴰ x xs → test x ≡ true

@@ -38,12 +38,12 @@ sum_of setting (term ∷ more) = product setting term +ℤ sum_of setting more
 -- the setting meets the row: a clause if at least one literal is true, a linear row if the sum is at most the bound
 unfoldable pub meets : Setting → Row → Bool
 meets setting (clause role literals) = any_of (is_true setting) literals
-meets setting (linear role bound row-terms) = le_z (sum_of setting row-terms) bound
+meets setting (linear role bound row_terms) = le_z (sum_of setting row_terms) bound
 
 -- the role of a row: 0 is the host, r is request r
 unfoldable pub role_of : Row → ℕ
 role_of (clause role literals) = role
-role_of (linear role bound row-terms) = role
+role_of (linear role bound row_terms) = role
 
 -- a selection says which requests are chosen, by their numbers; the host's rows always count
 unfoldable pub counts : (ℕ → Bool) → ℕ → Bool

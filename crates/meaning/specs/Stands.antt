@@ -16,8 +16,8 @@ stands rows v chosen = some_setting v [] (λ setting. meets_all chosen setting r
 -- the setting has v values, and meets every host row and every row of a chosen request
 pub record Meeting (rows : List Row) (v : ℕ) (chosen : ℕ → Bool) (setting : Setting) : Type 0 where
   pub each : length setting ≡ v
-  pub meets-host : (row : Row) → Memᴰ row rows → role_of row ≡ 0 → meets setting row ≡ true
-  pub meets-chosen : (row : Row) → Memᴰ row rows → chosen (role_of row) ≡ true → meets setting row ≡ true
+  pub meets_host : (row : Row) → Memᴰ row rows → role_of row ≡ 0 → meets setting row ≡ true
+  pub meets_chosen : (row : Row) → Memᴰ row rows → chosen (role_of row) ≡ true → meets setting row ≡ true
 
 -- a selection by a list, entry r for request r and entry 0 for the host
 abbrev pub by_role : List Bool → ℕ → Bool

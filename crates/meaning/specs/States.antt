@@ -51,15 +51,15 @@ clause_state values literals = state_of (any_of (may_be_true values) literals) (
 
 -- a linear row may hold where the least sum is at most the bound, and must where the most is
 unfoldable pub linear_state : Values → ℤ → List Term → ℕ
-linear_state values bound row-terms = state_of (le_z (sum_at_end negative_of values row-terms) bound) (le_z (sum_at_end positive_of values row-terms) bound)
+linear_state values bound row_terms = state_of (le_z (sum_at_end negative_of values row_terms) bound) (le_z (sum_at_end positive_of values row_terms) bound)
 
 -- the state of a row
 unfoldable pub row_state : Values → Row → ℕ
 row_state values (clause role literals) = clause_state values literals
-row_state values (linear role bound row-terms) = linear_state values bound row-terms
+row_state values (linear role bound row_terms) = linear_state values bound row_terms
 
 -- both ends of what some terms, so many, can add up to are told, each with 2^31 more for every term
-pub record EndsTold (values : Values) (row-terms : List Term) (count least most : ℕ) : Type 0 where
-  pub least_told : pos least ≡ sum_at_end negative_of values row-terms +ℤ pos (2147483648 * count)
-  pub most_told : pos most ≡ sum_at_end positive_of values row-terms +ℤ pos (2147483648 * count)
+pub record EndsTold (values : Values) (row_terms : List Term) (count least most : ℕ) : Type 0 where
+  pub least_told : pos least ≡ sum_at_end negative_of values row_terms +ℤ pos (2147483648 * count)
+  pub most_told : pos most ≡ sum_at_end positive_of values row_terms +ℤ pos (2147483648 * count)
   pub small : (least ≤ 4294967296 * count) × (most ≤ 4294967296 * count)

@@ -8,9 +8,9 @@ use Rattle.preference.specs.Halving.{halve_conflict, enter_conflict, halve_relax
 use Rattle.preference.specs.Answer.{answered}
 use Rattle.preference.specs.Cases.{CasesHold, OrdersHold, wanted, within_budget}
 
-pub cases-hold : CasesHold
+pub cases_hold : CasesHold
 unfolding all none entered one_conflict one_relax size tree_of halve_conflict enter_conflict halve_relax enter_relax answered wanted within_budget
-cases-hold = record { conflicts = refl; relaxations = refl; conflict-sets = refl; relaxation-sets = refl }
+cases_hold = record { conflicts = refl; relaxations = refl; conflict_sets = refl; relaxation_sets = refl }
 
 pub orders_hold : OrdersHold
 orders_hold =

@@ -13,7 +13,7 @@ use Rattle.preference.specs.Question.{Question}
 use Rattle.preference.specs.Part.{Part, together, entered}
 use Rattle.preference.specs.Cut.{Tree, leaf, node, size, Deep}
 use Rattle.preference.specs.Halving.{halve_conflict, halve_relax, enter_conflict, enter_relax}
-use Rattle.preference.proofs.Selections.{kept-none, dropped-append, dropped-all}
+use Rattle.preference.proofs.Selections.{kept_none, dropped-append, dropped-all}
 use Rattle.preference.proofs.Found.{conflict_finds, relax_finds}
 
 -- one question for entering, and two for each request found and each cut above it
@@ -35,12 +35,12 @@ together_bounded d f a g b p q some = go (ltb 0 f) refl q
     go true e h = omega (arith, mul-suc (f + g) d, add-mul f g d, ltb-true 0 f e)
     go false e h = omega (arith, mul-suc (f + g) d, add-mul f g d, ltb-false 0 f e, some e)
 
-entered-found : (ask matters : Bool) (settled : Selection) (w : Part) (count : Selection → ℕ) (c : ℕ) → count settled ≡ c → count w.set ≡ c + w.found
+entered_found : (ask matters : Bool) (settled : Selection) (w : Part) (count : Selection → ℕ) (c : ℕ) → count settled ≡ c → count w.set ≡ c + w.found
     → count (entered ask matters settled w).set ≡ c + (entered ask matters settled w).found
 unfolding entered
-entered-found false matters settled w count c e f = f
-entered-found true true settled w count c e f = f
-entered-found true false settled w count c e f = omega arith
+entered_found false matters settled w count c e f = f
+entered_found true true settled w count c e f = f
+entered_found true false settled w count c e f = omega arith
 
 module _ (ok : Question) where
   pub conflict_bounded : (t : Tree) (d : ℕ) → Deep t d → (before : ℕ) (ask : Bool) (S : Selection) → Bounded ask d (halve_conflict ok t before ask S)
@@ -68,20 +68,20 @@ module _ (ok : Question) where
   pub conflict_found_is_kept : (t : Tree) (before : ℕ) (ask : Bool) (S : Selection)
       → kept (halve_conflict ok t before ask S).set ≡ kept S + (halve_conflict ok t before ask S).found
   unfolding halve_conflict enter_conflict
-  conflict_found_is_kept leaf before ask S = entered-found ask _ _ _ kept (kept S) (kept-none 1 S) (unfold kept in omega arith)
+  conflict_found_is_kept leaf before ask S = entered_found ask _ _ _ kept (kept S) (kept_none 1 S) (unfold kept in omega arith)
   conflict_found_is_kept (node c1 c2) before ask S =
       let d2 : Part = halve_conflict ok c2 (before + size c1) true S in
-      entered-found ask _ _ _ kept (kept S) (kept-none (size c1 + size c2) S)
+      entered_found ask _ _ _ kept (kept S) (kept_none (size c1 + size c2) S)
       (omega (arith, conflict_found_is_kept c2 (before + size c1) true S, conflict_found_is_kept c1 before (ltb 0 d2.found) d2.set))
 
   pub relax_found_is_dropped : (t : Tree) (P : Selection) (after : ℕ) (ask : Bool)
       → dropped (halve_relax ok t P after ask).set ≡ dropped P + (halve_relax ok t P after ask).found
   unfolding halve_relax enter_relax
   relax_found_is_dropped leaf P after ask =
-      entered-found ask _ _ _ dropped (dropped P) (simp (dropped-append, dropped-all) (omega arith)) (rw dropped-append (unfold dropped in refl))
+      entered_found ask _ _ _ dropped (dropped P) (simp (dropped-append, dropped-all) (omega arith)) (rw dropped-append (unfold dropped in refl))
   relax_found_is_dropped (node c1 c2) P after ask =
       let k1 : Part = halve_relax ok c1 P (size c2 + after) true in
-      entered-found ask _ _ _ dropped (dropped P) (simp (dropped-append, dropped-all) (omega arith))
+      entered_found ask _ _ _ dropped (dropped P) (simp (dropped-append, dropped-all) (omega arith))
       (omega (arith, relax_found_is_dropped c1 P (size c2 + after) true, relax_found_is_dropped c2 k1.set after (ltb 0 k1.found)))
 
   -- all the requests as one part: k is the number of requests in the conflict, and of those left out of the relaxation

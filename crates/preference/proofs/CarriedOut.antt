@@ -26,8 +26,8 @@ unfolding size
 part_is_not_empty leaf = omega arith
 part_is_not_empty (node a b) = omega (arith, part_is_not_empty a)
 
-kept-all : (n : ℕ) → kept (all n) ≡ n
-kept-all n = omega (arith, kept_and_dropped (all n), dropped-all n, length-all n)
+kept_all : (n : ℕ) → kept (all n) ≡ n
+kept_all n = omega (arith, kept_and_dropped (all n), dropped-all n, length-all n)
 
 kept_of_none : (n : ℕ) → kept (none n) ≡ 0
 unfolding none kept
@@ -133,7 +133,7 @@ module _ (ok : Question) where
   working_a_conflict (node c1 c2) before first addition front S e f =
       let second : Asking Selection = work_conflict c2 (all (size c1)) (front ++ all (size c1)) S in
       let d2 : Selection = found_by ok second in
-      let some : not_empty (all (size c1)) ≡ true = rw kept-all (lt-ltb 0 (size c1) (part_is_not_empty c1)) in
+      let some : not_empty (all (size c1)) ≡ true = rw kept_all (lt-ltb 0 (size c1) (part_is_not_empty c1)) in
       rw f
       (the_ground_is_asked addition (front ++ (none (size c1 + size c2) ++ S)) (size c1 + size c2) first S _ _ e
       (ap (λ p. together p (halve_conflict ok c1 before (ltb 0 p.found) p.set))

@@ -18,7 +18,7 @@ use Rattle.preference.proofs.Trees.{size-tree, half_cuts, middle_is_deep}
 use Rattle.preference.proofs.Preferred.{one_conflict_asks_each, one_by_one_finds_the_preferred_conflict}
 use Rattle.preference.proofs.EveryCut.{halving_conflict_is_one_by_one}
 use Rattle.preference.proofs.Bound.{conflict_asks_at_most}
-use Rattle.preference.proofs.Questions.{answered-agrees, one_conflict_agrees, halve_conflict_agrees}
+use Rattle.preference.proofs.Questions.{answered_agrees, one_conflict_agrees, halve_conflict_agrees}
 use Rattle.preference.proofs.Depths.{depths_keep_their_rule}
 use Rattle.preference.proofs.Start.{by_start, same_answer}
 
@@ -80,9 +80,9 @@ module _ (ok : Question) (n : ℕ) where
   -- two questions that agree on the selections of n requests give equal answers, counts included
   module _ (other : Question) (agree : Agree n ok other) where
     pub one_by_one_conflict_asks_nothing_else : conflict_one_by_one ok n ≡ conflict_one_by_one other n
-    one_by_one_conflict_asks_nothing_else = answered-agrees ok other n agree (none n) _ _ (λ p. one_conflict_agrees ok other n agree n [] (omega arith))
+    one_by_one_conflict_asks_nothing_else = answered_agrees ok other n agree (none n) _ _ (λ p. one_conflict_agrees ok other n agree n [] (omega arith))
 
     pub halving_conflict_asks_nothing_else : (cut : ℕ → ℕ) → Cuts cut → conflict_by_cut cut ok n ≡ conflict_by_cut cut other n
     halving_conflict_asks_nothing_else cut cuts =
-        answered-agrees ok other n agree (none n) _ _
+        answered_agrees ok other n agree (none n) _ _
         (λ p. halve_conflict_agrees ok other n agree (tree_by cut n) 0 false [] (omega (arith, size-tree cut cuts n p)))

@@ -56,19 +56,19 @@ module _ (ok : Question) where
 
   module _ (n : ℕ) where
     -- the set of an answer, from that of the part that was worked
-    length-answered : (whole : Selection) (w : Part) → length whole ≡ n → (0 < n → length w.set ≡ n) → length (answered ok n whole w).set ≡ n
-    length-answered whole w e f = by_start ok n whole w (λ a. length a.set ≡ n) (λ h. e) (λ h z g. length_none n) (λ h p g. length_none n) (λ h p g. f p)
+    length_answered : (whole : Selection) (w : Part) → length whole ≡ n → (0 < n → length w.set ≡ n) → length (answered ok n whole w).set ≡ n
+    length_answered whole w e f = by_start ok n whole w (λ a. length a.set ≡ n) (λ h. e) (λ h z g. length_none n) (λ h p g. length_none n) (λ h p g. f p)
 
     pub length_conflict_one_by_one : length (conflict_one_by_one ok n).set ≡ n
-    length_conflict_one_by_one = length-answered (none n) _ (length_none n) (λ p. omega (arith, length_one_conflict n []))
+    length_conflict_one_by_one = length_answered (none n) _ (length_none n) (λ p. omega (arith, length_one_conflict n []))
 
     pub length_relaxation_one_by_one : length (relaxation_one_by_one ok n).set ≡ n
-    length_relaxation_one_by_one = length-answered (all n) _ (length-all n) (λ p. omega (arith, length_one_relax [] n))
+    length_relaxation_one_by_one = length_answered (all n) _ (length-all n) (λ p. omega (arith, length_one_relax [] n))
 
     pub length_conflict_by_cut : (cut : ℕ → ℕ) → Cuts cut → length (conflict_by_cut cut ok n).set ≡ n
     length_conflict_by_cut cut cuts =
-        length-answered (none n) _ (length_none n) (λ p. omega (arith, length_halve_conflict (tree_by cut n) 0 false [], size-tree cut cuts n p))
+        length_answered (none n) _ (length_none n) (λ p. omega (arith, length_halve_conflict (tree_by cut n) 0 false [], size-tree cut cuts n p))
 
     pub length_relaxation_by_cut : (cut : ℕ → ℕ) → Cuts cut → length (relaxation_by_cut cut ok n).set ≡ n
     length_relaxation_by_cut cut cuts =
-        length-answered (all n) _ (length-all n) (λ p. omega (arith, length_halve_relax (tree_by cut n) [] 0 false, size-tree cut cuts n p))
+        length_answered (all n) _ (length-all n) (λ p. omega (arith, length_halve_relax (tree_by cut n) [] 0 false, size-tree cut cuts n p))

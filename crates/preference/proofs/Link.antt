@@ -75,8 +75,8 @@ module _ (ok : Question) (n : ℕ) (monotone : Monotone ok n) {C R : Selection} 
             absurd (r.none_before X (record { over = simp (length-append, length-all, length_none) (omega arith); stands = e }) before)
 
     -- the requests above it can: they are all in the relaxation
-    above-stands : ok (all k ++ (false ∷ none after)) ≡ true
-    above-stands =
+    above_stands : ok (all k ++ (false ∷ none after)) ≡ true
+    above_stands =
         let l : length R ≡ n = r.relaxation.over in
         let h : k < length R = left_out_in_range R k m.left_out in
         let shape : R ≡ all k ++ (false ∷ drop (suc k) R) =
@@ -104,7 +104,7 @@ module _ (ok : Question) (n : ℕ) (monotone : Monotone ok n) {C R : Selection} 
             let h : k < n = in_order in
             let left_out : get_or C k true ≡ false = any_default C k true false (omega arith) ∙ e in
             let within : C ⊆ all k ++ (false ∷ none after) = rw none_below at (within_without C k left_out) in
-            absurd (true≢false (sym (monotone C _ (sym (subset-length within) ∙ l) within above-stands) ∙ c.conflict.fails))
+            absurd (true≢false (sym (monotone C _ (sym (subset-length within) ∙ l) within above_stands) ∙ c.conflict.fails))
 
   pub proposition_4 : (k : ℕ) × MostImportantLeftOut R k × LeastImportantChosen C k
   proposition_4 =

@@ -40,14 +40,14 @@ is_in_range (b ∷ X) (suc k) e = omega (arith, is_in_range X k e)
 
 module _ (ok : Question) where
   -- what was decided stays, at the end
-  decided-conflict : (n : ℕ) (S : Selection) → drop n (one_conflict ok n S).set ≡ S
+  decided_conflict : (n : ℕ) (S : Selection) → drop n (one_conflict ok n S).set ≡ S
   unfolding one_conflict
-  decided-conflict zero S = refl
-  decided-conflict (suc n) S =
+  decided_conflict zero S = refl
+  decided_conflict (suc n) S =
       let keep : Bool = ok (all n ++ (false ∷ S)) in
       let R : Selection = (one_conflict ok n (keep ∷ S)).set in
       let e : suc n ≡ n + 1 = omega arith in
-      rw (e, ← drop-drop 1 n R, decided-conflict n (keep ∷ S))
+      rw (e, ← drop-drop 1 n R, decided_conflict n (keep ∷ S))
 
   pub one_conflict_asks_each : (n : ℕ) (S : Selection) → (one_conflict ok n S).asked ≡ n
   unfolding one_conflict
@@ -75,7 +75,7 @@ module _ (ok : Question) where
           let g : k ≡ n = omega (arith, ltb-false k n f) in
           let z : n + 0 ≡ k = omega arith in
           let one : suc n ≡ n + 1 = omega arith in
-          let d : drop n R ≡ keep ∷ S = decided-conflict n (keep ∷ S) in
+          let d : drop n R ≡ keep ∷ S = decided_conflict n (keep ∷ S) in
           let kept : keep ≡ true = sym (ap (λ L. get_or L 0 false) d) ∙ get_or-drop n R 0 false ∙ ap (λ m. get_or R m false) z ∙ e in
           rw (g, one, ← drop-drop 1 n R, d) kept
 

@@ -67,6 +67,6 @@ module _ (ok other : Question) (n : ℕ) (agree : Agree n ok other) where
       ∙ ap (λ p. together k1 p) (halve_relax_agrees c2 k1.set after (ltb 0 k1.found)
       (omega (arith, length_halve_relax other c1 P (size c2 + after) true))))
 
-  pub answered-agrees : (whole : Selection) (p q : Part) → (0 < n → p ≡ q) → answered ok n whole p ≡ answered other n whole q
-  answered-agrees whole p q e =
+  pub answered_agrees : (whole : Selection) (p q : Part) → (0 < n → p ≡ q) → answered ok n whole p ≡ answered other n whole q
+  answered_agrees whole p q e =
       rw (answered_unless_empty ok n whole p q e) (unfold answered in rw (agree (all n) (length-all n), agree (none n) (length_none n)))

@@ -18,8 +18,8 @@ use Rattle.preference.proofs.Found.{conflict_finds, relax_finds}
 use Rattle.preference.proofs.Selections.{all-add, none-add, none_then_none, subset_refl, subset-append, none_subset_all}
 
 -- the ground without a part lies within all requests up to its end
-ground-within : (before n : ℕ) (S : Selection) → all before ++ (none n ++ S) ⊆ all (before + n) ++ S
-ground-within before n S = rw (all-add, append_assoc) (subset-append (subset_refl (all before)) (subset-append (none_subset_all n) (subset_refl S)))
+ground_within : (before n : ℕ) (S : Selection) → all before ++ (none n ++ S) ⊆ all (before + n) ++ S
+ground_within before n S = rw (all-add, append_assoc) (subset-append (subset_refl (all before)) (subset-append (none_subset_all n) (subset_refl S)))
 
 -- the first request of a part, added alone, lies within the part added whole
 first_within : (P : Selection) (n after : ℕ) → P ++ (true ∷ none (n + after)) ⊆ P ++ (true ∷ (all n ++ none after))
@@ -41,7 +41,7 @@ module _ (ok : Question) (monotone : (X Y : Selection) → X ⊆ Y → ok Y ≡ 
   settled_conflict (suc n) before S h =
       let e : none n ++ (false ∷ S) ≡ none (suc n) ++ S = none_then_none n S in
       let f : ok (all before ++ (none n ++ (false ∷ S))) ≡ false = rw e h in
-      let r : all before ++ (none n ++ (false ∷ S)) ⊆ all (before + n) ++ (false ∷ S) = ground-within before n (false ∷ S) in
+      let r : all before ++ (none n ++ (false ∷ S)) ⊆ all (before + n) ++ (false ∷ S) = ground_within before n (false ∷ S) in
       let g : ok (all (before + n) ++ (false ∷ S)) ≡ false = fails_with_more _ _ r f in
       rw (add-suc, g) (settled_conflict n before (false ∷ S) f ∙ ap (λ X. (one_conflict ok before X).set) e)
 
@@ -64,15 +64,15 @@ module _ (ok : Question) (monotone : (X Y : Selection) → X ⊆ Y → ok Y ≡ 
       rw ((conflict_finds ok c2 (before + size c1) true S).whole f) (rw (none-add, append_assoc) at g)
 
   -- to work the part, and then the requests before it one by one, is to work all of them one by one
-  same-conflict : (t : Tree) (before : ℕ) (ask : Bool) (S : Selection) → (ask ≡ false → ok (all before ++ (none (size t) ++ S)) ≡ true)
+  same_conflict : (t : Tree) (before : ℕ) (ask : Bool) (S : Selection) → (ask ≡ false → ok (all before ++ (none (size t) ++ S)) ≡ true)
       → (one_conflict ok (before + size t) S).set ≡ (one_conflict ok before (halve_conflict ok t before ask S).set).set
   unfolding halve_conflict enter_conflict size
-  same-conflict leaf before ask S k = enter_conflict_lem 1 before ask _ S _ refl k (unfold one_conflict none in λ e. rw (add-one, e))
-  same-conflict (node c1 c2) before ask S k =
+  same_conflict leaf before ask S k = enter_conflict_lem 1 before ask _ S _ refl k (unfold one_conflict none in λ e. rw (add-one, e))
+  same_conflict (node c1 c2) before ask S k =
       let d2 : Part = halve_conflict ok c2 (before + size c1) true S in
       enter_conflict_lem (size c1 + size c2) before ask _ S _ refl k
-      (λ g. rw (← add_assoc) (same-conflict c2 (before + size c1) true S (λ e. absurd (true≢false e))
-      ∙ same-conflict c1 before (ltb 0 d2.found) d2.set (ground_of_first c1 c2 before S g)))
+      (λ g. rw (← add_assoc) (same_conflict c2 (before + size c1) true S (λ e. absurd (true≢false e))
+      ∙ same_conflict c1 before (ltb 0 d2.found) d2.set (ground_of_first c1 c2 before S g)))
 
   -- a part that stands whole: one by one keeps all of it
   settled_relax : (n : ℕ) (P : Selection) (after : ℕ) → ok (P ++ (all n ++ none after)) ≡ true
@@ -118,7 +118,7 @@ module _ (ok : Question) (monotone : (X Y : Selection) → X ⊆ Y → ok Y ≡ 
   pub halving_finds_the_one_by_one_conflict : (t : Tree) → ok (none (size t)) ≡ true
       → (halve_conflict ok t 0 false []).set ≡ (one_conflict ok (size t) []).set
   unfolding one_conflict all
-  halving_finds_the_one_by_one_conflict t h = sym (rw zero-add at (same-conflict t 0 false [] (λ e. rw append-nil h)))
+  halving_finds_the_one_by_one_conflict t h = sym (rw zero-add at (same_conflict t 0 false [] (λ e. rw append-nil h)))
 
   pub halving_finds_the_one_by_one_relaxation : (t : Tree) → ok (all (size t)) ≡ false
       → (halve_relax ok t [] 0 false).set ≡ (one_relax ok [] (size t)).set

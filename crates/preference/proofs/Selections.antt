@@ -68,10 +68,10 @@ unfolding none all
 none_subset_all zero = ends
 none_subset_all (suc n) = more (none_subset_all n)
 
-pub kept-none : (n : ℕ) (S : Selection) → kept (none n ++ S) ≡ kept S
+pub kept_none : (n : ℕ) (S : Selection) → kept (none n ++ S) ≡ kept S
 unfolding none kept
-kept-none zero S = refl
-kept-none (suc n) S = kept-none n S
+kept_none zero S = refl
+kept_none (suc n) S = kept_none n S
 
 pub kept_and_dropped : (X : Selection) → kept X + dropped X ≡ length X
 unfolding kept dropped
@@ -104,10 +104,10 @@ get_or-all (suc n) zero = refl
 get_or-all (suc n) (suc k) = get_or-all n k
 
 -- a selection names as many requests as it keeps
-pub length-named : (order : List ℕ) (X : Selection) → length X ≡ length order → length (named order X) ≡ kept X
+pub length_named : (order : List ℕ) (X : Selection) → length X ≡ length order → length (named order X) ≡ kept X
 unfolding named kept
-length-named [] [] e = refl
-length-named [] (b ∷ X) e = absurd (omega arith)
-length-named (request ∷ order) [] e = absurd (omega arith)
-length-named (request ∷ order) (true ∷ X) e = ap suc (length-named order X (omega arith))
-length-named (request ∷ order) (false ∷ X) e = length-named order X (omega arith)
+length_named [] [] e = refl
+length_named [] (b ∷ X) e = absurd (omega arith)
+length_named (request ∷ order) [] e = absurd (omega arith)
+length_named (request ∷ order) (true ∷ X) e = ap suc (length_named order X (omega arith))
+length_named (request ∷ order) (false ∷ X) e = length_named order X (omega arith)

@@ -71,12 +71,12 @@ module _ (ok : Question) where
   unfolding halve_conflict enter_conflict
   one_request_conflict before S ask e = worked ask _ _ _ e ∙ rw add-zero
 
-  cut-conflict : (a b : Tree) (before : ℕ) (S : Selection) (ask : Bool) → (ask ≡ true → ok (all before ++ (none (size a + size b) ++ S)) ≡ true)
+  cut_conflict : (a b : Tree) (before : ℕ) (S : Selection) (ask : Bool) → (ask ≡ true → ok (all before ++ (none (size a + size b) ++ S)) ≡ true)
       → (d2 d1 : Part) → halve_conflict ok b (before + size a) true S ≡ d2 → halve_conflict ok a before (ltb 0 d2.found) d2.set ≡ d1
       → halve_conflict ok (node a b) before ask S
       ≡ record { set = d1.set; found = d2.found + d1.found; asked = cond ask 1 0 + (d2.asked + d1.asked) }
   unfolding halve_conflict enter_conflict
-  cut-conflict a b before S ask e d2 d1 f g = rw (f, g) (worked ask _ _ (together d2 d1) e)
+  cut_conflict a b before S ask e d2 d1 f g = rw (f, g) (worked ask _ _ (together d2 d1) e)
 
   module _ (cut : ℕ → ℕ) (cuts : Cuts cut) (n before : ℕ) (S : Selection) where
     -- Halving, conflict: the ground was asked and cannot stand, so the part gives nothing;
@@ -102,7 +102,7 @@ module _ (ok : Question) where
         let b : size (tree_by cut (n - cut n)) ≡ n - cut n = size-tree cut cuts (n - cut n) (omega (arith, cuts n h)) in
         let s : size (tree_by cut (cut n)) + size (tree_by cut (n - cut n)) ≡ n = omega (arith, cuts n h) in
         rw (tree-cut cut cuts n h)
-        (cut-conflict (tree_by cut (cut n)) (tree_by cut (n - cut n)) before S ask (rw s e) d2 d1 (rw a f) g)
+        (cut_conflict (tree_by cut (cut n)) (tree_by cut (n - cut n)) before S ask (rw s e) d2 d1 (rw a f) g)
 
   settled_relax : (t : Tree) (P : Selection) (after : ℕ) → ok (P ++ (all (size t) ++ none after)) ≡ true
       → halve_relax ok t P after true ≡ record { set = P ++ all (size t); found = 0; asked = 1 }

@@ -116,8 +116,8 @@ cases = case_a ∷ case_b ∷ case_c ∷ case_d ∷ case_e ∷ case_e ∷ case_g
 pub record CasesHold : Type 0 where
   pub conflicts : map (λ case. conflict_by_halving case.question case.requests) cases ≡ map (λ case. case.conflict) cases
   pub relaxations : map (λ case. relaxation_by_halving case.question case.requests) cases ≡ map (λ case. case.relaxation) cases
-  pub conflict-sets : map (λ case. (conflict_one_by_one case.question case.requests).set) cases ≡ map (λ case. case.conflict.set) cases
-  pub relaxation-sets : map (λ case. (relaxation_one_by_one case.question case.requests).set) cases ≡ map (λ case. case.relaxation.set) cases
+  pub conflict_sets : map (λ case. (conflict_one_by_one case.question case.requests).set) cases ≡ map (λ case. case.conflict.set) cases
+  pub relaxation_sets : map (λ case. (relaxation_one_by_one case.question case.requests).set) cases ≡ map (λ case. case.relaxation.set) cases
 
 -- "In H {2 1 3} and {4 1 3} are minimal too": {2 4 3} comes before both, as it is without request 1. In E, {1} comes before {2}.
 pub record OrdersHold : Type 0 where

@@ -28,7 +28,7 @@ use Rattle.promises.specs.Selecting.{bits, above, names_above, can_stand}
 use Rattle.promises.specs.Sheet.{CallsHold, damaged_h, lent_buffer, lent_start}
 use Rattle.table.specs.Sheet.{table_h}
 use Rattle.table.specs.Samples.{frame_h}
-use Rattle.promises.proofs.Outcomes.{can_stand_refused, can_stand_answered, can_stand_too_much, report-refused, report_no_room}
+use Rattle.promises.proofs.Outcomes.{can_stand_refused, can_stand_answered, can_stand_too_much, report_refused, report_no_room}
 
 pub calls_hold : CallsHold
 unfolding u16_at u32_at i32_at words total every among all_different kind_of is_known is_head term_at terms clause_at linear_at row_of rows within term_in_range
@@ -42,9 +42,9 @@ calls_hold =
       damaged = record { number_is = refl; place_is = refl };
       body = record { number_is = refl; size_is = refl; place_is = refl };
       no_record = record { number_is = refl; size_is = refl; place_is = refl };
-      damaged-body = record { number_is = refl; size_is = refl; place_is = refl };
-      damaged-question = can_stand_refused damaged_h 11 (record { number = 9; place = 86 }) refl;
-      damaged-report = report-refused ConflictByHalving damaged_h lent_buffer lent_start (record { number = 9; place = 86 }) refl;
+      damaged_body = record { number_is = refl; size_is = refl; place_is = refl };
+      damaged_question = can_stand_refused damaged_h 11 (record { number = 9; place = 86 }) refl;
+      damaged_report = report_refused ConflictByHalving damaged_h lent_buffer lent_start (record { number = 9; place = 86 }) refl;
       stand = can_stand_answered table_h 11 frame_h refl refl;
       fall = can_stand_answered table_h 14 frame_h refl refl;
       fall_123 = can_stand_answered table_h 7 frame_h refl refl;

@@ -34,10 +34,10 @@ request_at_its_bit n selection zero h g = absurd (omega arith)
 request_at_its_bit n selection (suc r) h g = let e : suc r - 1 ≡ r = omega arith in rw e (bit_at n selection r (omega arith))
 
 -- what is left above the first n bits
-pub above-is : (n number : ℕ) → above n number ≡ number / 2 ^ n
+pub above_is : (n number : ℕ) → above n number ≡ number / 2 ^ n
 unfolding above
-above-is zero number = omega arith
-above-is (suc n) number = above-is n (number / 2) ∙ halved number n
+above_is zero number = omega arith
+above_is (suc n) number = above_is n (number / 2) ∙ halved number n
 
 -- two to any power is some number
 pub power_is_positive : (n : ℕ) → 0 < 2 ^ n
@@ -49,11 +49,11 @@ pub names_none_above : (n number : ℕ) → names_above n number ≡ false ↔ n
 unfolding names_above
 names_none_above n number = (
   λ e.
-      let z : number / 2 ^ n ≡ 0 = sym (above-is n number) ∙ eqb-true (above n number) 0 (not-false (eqb (above n number) 0) e) in
+      let z : number / 2 ^ n ≡ 0 = sym (above_is n number) ∙ eqb-true (above n number) 0 (not-false (eqb (above n number) 0) e) in
       let h : number / 2 ^ n < 1 = omega arith in
       let g : number < 1 * 2 ^ n = (div-lt_iff_lt-mul (power_is_positive n)).0 h in
       omega arith,
-  λ h. ap not (eq-eqb (above n number) 0 (above-is n number ∙ div-eq_of_lt h)),
+  λ h. ap not (eq-eqb (above n number) 0 (above_is n number ∙ div-eq_of_lt h)),
 )
 
 -- the number of a list of flags: the first is worth 1, and each the double of the one before

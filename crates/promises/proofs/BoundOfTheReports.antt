@@ -16,7 +16,7 @@ use Rattle.preference.specs.Selection.{kept, dropped}
 use Rattle.preference.specs.Question.{Question}
 use Rattle.preference.specs.Cut.{half}
 use Rattle.preference.specs.Answer.{Answer, relaxation_by_halving}
-use Rattle.preference.proofs.Selections.{kept_and_dropped, length-named}
+use Rattle.preference.proofs.Selections.{kept_and_dropped, length_named}
 use Rattle.preference.proofs.Trees.{half_cuts}
 use Rattle.preference.proofs.Lengths.{length_conflict_one_by_one, length_relaxation_one_by_one, length_conflict_by_cut, length_relaxation_by_cut}
 use Rattle.preference.proofs.Conflicts.{one_by_one_conflict_count, halving_conflict_count_by_the_list}
@@ -25,7 +25,7 @@ use Rattle.explain.specs.declared.answers.Method.{Method}
 use Rattle.explain.specs.declared.answers.Method.TheVariants.{ConflictByHalving, ConflictOneByOne, RelaxationByHalving, RelaxationOneByOne}
 use Rattle.explain.specs.Methods.{answer_by}
 use Rattle.report.specs.Report.{status_at, count_at, named_at}
-use Rattle.report.proofs.Reports.{ReportRead, report-read}
+use Rattle.report.proofs.Reports.{ReportRead, report_read}
 use Rattle.promises.specs.Reports.{table_question, kind_by, room_for, numbers_of}
 use Rattle.promises.specs.Calls.{Reported, ReportCall}
 use Rattle.promises.specs.Demands.{TheReportsAreBounded, EveryReportIsBounded}
@@ -55,9 +55,9 @@ module _ (t : List ℕ) (f : Frame) (e : reading t ≡ Accepted f) (buffer : Lis
     reported_is_read : Reported method t f buffer start n p a → AnswerRead a start answer
     reported_is_read told =
         record {
-          status = read.status-read ∙ ap (λ (x : Answer). x.status) same;
-          count = read.count-read ∙ ap (λ (x : Answer). x.asked) same;
-          named_many = read.named-read ∙ ap (λ (x : Answer). length (numbers_of t f x)) same ∙ length-named (order_of t f) answer.set each;
+          status = read.status_read ∙ ap (λ (x : Answer). x.status) same;
+          count = read.count_read ∙ ap (λ (x : Answer). x.asked) same;
+          named_many = read.named_read ∙ ap (λ (x : Answer). length (numbers_of t f x)) same ∙ length_named (order_of t f) answer.set each;
         }
       where
         same : told.answer ≡ answer
@@ -68,13 +68,13 @@ module _ (t : List ℕ) (f : Frame) (e : reading t ≡ Accepted f) (buffer : Lis
 
         read : ReportRead a start (kind_by method) told.answer.status told.answer.asked (numbers_of t f told.answer)
         read =
-            report-read a start (kind_by method) told.answer.status told.answer.asked (numbers_of t f told.answer) _
+            report_read a start (kind_by method) told.answer.status told.answer.asked (numbers_of t f told.answer) _
             (ap (λ (x : List ℕ). drop start x) told.left.buffer_is
             ∙ drop_at (take start buffer) _ start (length-take-le start buffer (room_within f.requests buffer start room)))
 
     -- the answer in the bytes that a call leaves
-    answer-read : ReportCall method t buffer start n p a → AnswerRead a start answer
-    answer-read call = reported_is_read (call.reported f e room)
+    answer_read : ReportCall method t buffer start n p a → AnswerRead a start answer
+    answer_read call = reported_is_read (call.reported f e room)
 
   -- the bound of one table's reports
   the_reports_are_bounded : TheReportsAreBounded t f buffer start
@@ -83,28 +83,28 @@ module _ (t : List ℕ) (f : Frame) (e : reading t ≡ Accepted f) (buffer : Lis
       record {
         conflict =
             λ n p a call.
-            let read = answer-read ConflictByHalving n p a call in
+            let read = answer_read ConflictByHalving n p a call in
             rw (read.count, read.named_many) (halving_conflict_count_by_the_list (table_question t f) f.requests few);
         relaxation =
             λ n p a call.
-            let read = answer-read RelaxationByHalving n p a call in
+            let read = answer_read RelaxationByHalving n p a call in
             rw (read.count, read.named_many, left_out) (halving_relaxation_count_by_the_list (table_question t f) f.requests few);
         no_relaxation =
             λ n p a call fails.
-            let read = answer-read RelaxationByHalving n p a call in
+            let read = answer_read RelaxationByHalving n p a call in
             rw read.count (no_relaxation_count (table_question t f) f.requests (sym read.status ∙ fails));
         conflict_one_by_one =
             λ n p a call works.
-            let read = answer-read ConflictOneByOne n p a call in
+            let read = answer_read ConflictOneByOne n p a call in
             read.count ∙ one_by_one_conflict_count (table_question t f) f.requests (sym read.status ∙ works);
         relaxation_one_by_one =
             λ n p a call works.
-            let read = answer-read RelaxationOneByOne n p a call in
+            let read = answer_read RelaxationOneByOne n p a call in
             read.count ∙ one_by_one_relaxation_count (table_question t f) f.requests (sym read.status ∙ works);
       }
     where
       few : f.requests ≤ 64
-      few = (accepted_keeps t f e).few-requests
+      few = (accepted_keeps t f e).few_requests
 
       -- what a relaxation does not name is what it drops
       left_out :

@@ -72,12 +72,12 @@ module _ (t : List ℕ) (f : Frame) where
   pub the_sets_are_right : Kept t f → TheSetsAreRight t f
   the_sets_are_right kept =
       record {
-        stands-exactly = can_stand_exactly t f;
+        stands_exactly = can_stand_exactly t f;
         every_selection = every_selection_is_asked t f kept;
-        all-requests = all_requests_asked_in_public t f kept;
-        host-alone = host_alone_asked_in_public t f kept;
-        same-conflict = (halving_conflict_gives_the_one_by_one_conflict (table_question t f) f.requests monotone).set;
-        same-relaxation = (halving_relaxation_gives_the_one_by_one_relaxation (table_question t f) f.requests monotone).set;
+        all_requests = all_requests_asked_in_public t f kept;
+        host_alone = host_alone_asked_in_public t f kept;
+        same_conflict = (halving_conflict_gives_the_one_by_one_conflict (table_question t f) f.requests monotone).set;
+        same_relaxation = (halving_relaxation_gives_the_one_by_one_relaxation (table_question t f) f.requests monotone).set;
         no_conflict =
             (all_stand_without_conflict (table_question t f) f.requests, no_conflict_where_all_stand (table_question t f) f.requests monotone);
         no_relaxation =
@@ -101,10 +101,10 @@ the_count_is_bounded t f kept =
     record {
       conflict =
           λ a right. rw (right_answer_is_the_methods ConflictByHalving t f a right)
-          (halving_conflict_count_by_the_list (table_question t f) f.requests kept.few-requests);
+          (halving_conflict_count_by_the_list (table_question t f) f.requests kept.few_requests);
       relaxation =
           λ a right. rw (right_answer_is_the_methods RelaxationByHalving t f a right)
-          (halving_relaxation_count_by_the_list (table_question t f) f.requests kept.few-requests);
+          (halving_relaxation_count_by_the_list (table_question t f) f.requests kept.few_requests);
       no_relaxation =
           λ a right e.
           let same = right_answer_is_the_methods RelaxationByHalving t f a right in

@@ -24,10 +24,10 @@ places_of [] chosen = []
 places_of (request ∷ order) chosen = chosen request ∷ places_of order chosen
 
 -- there is one for each request of the order
-pub length-places : (order : List ℕ) (chosen : ℕ → Bool) → length (places_of order chosen) ≡ length order
+pub length_places : (order : List ℕ) (chosen : ℕ → Bool) → length (places_of order chosen) ≡ length order
 unfolding places_of
-length-places [] chosen = refl
-length-places (request ∷ order) chosen = ap suc (length-places order chosen)
+length_places [] chosen = refl
+length_places (request ∷ order) chosen = ap suc (length_places order chosen)
 
 -- they name the requests of the order that are chosen
 pub places_name : (role : ℕ) (order : List ℕ) (chosen : ℕ → Bool) → among role (named order (places_of order chosen)) ≡ (among role order && chosen role)
@@ -53,7 +53,7 @@ unfolding chosen_by
 every_selection_is_asked t f kept selection =
     record {
       places = places;
-      over = length-places (order_of t f) chosen ∙ length-words f.requests t (f.order + 4);
+      over = length_places (order_of t f) chosen ∙ length-words f.requests t (f.order + 4);
       names = names;
       same_answer = asked_in_public t f (order_of t f) places selection kept (λ request some small. sym (names request some small));
     }

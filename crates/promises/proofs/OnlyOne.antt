@@ -20,14 +20,14 @@ use Rattle.promises.specs.Calls.{names_too_much, no_room, Told, QuestionAnswered
 use Rattle.promises.specs.Demands.{EveryCallIsAnswered, OnlyOneOutcome}
 use Rattle.promises.proofs.Monotone.{question_is_monotone}
 use Rattle.promises.proofs.RightAnswers.{right_answer, only_one_right_answer}
-use Rattle.promises.proofs.Outcomes.{can_stand_refused, can_stand_too_much, can_stand_answered, report-refused, report_no_room, report-written}
+use Rattle.promises.proofs.Outcomes.{can_stand_refused, can_stand_too_much, can_stand_answered, report_refused, report_no_room, report_written}
 
 -- two refusals that are told alike
 pub same_told : {n s p n' s' p' n'' s'' p'' : ℕ} → Told n s p n'' s'' p'' → Told n' s' p' n'' s'' p'' → Told n s p n' s' p'
 same_told a b =
     record {
       number_is = a.number_is ∙ sym b.number_is;
-      stands-is = a.stands-is ∙ sym b.stands-is;
+      stands_is = a.stands_is ∙ sym b.stands_is;
       place_is = a.place_is ∙ sym b.place_is;
     }
 
@@ -38,15 +38,15 @@ same_bit zero (suc b) h g p q = let e : suc b ≡ 1 = omega arith in absurd (let
 same_bit (suc a) b h g p q = let e : suc a ≡ 1 = omega arith in e ∙ sym (q.1 (p.0 e))
 
 -- two answers to one question
-same-stands :
+same_stands :
     {t : List ℕ} {f : Frame} {selection n s p n' s' p' : ℕ} →
     QuestionAnswered t f selection n s p →
     QuestionAnswered t f selection n' s' p' →
     Told n s p n' s' p'
-same-stands {s = s} {s' = s'} a b =
+same_stands {s = s} {s' = s'} a b =
     record {
       number_is = a.number_is ∙ sym b.number_is;
-      stands-is = same_bit s s' a.bit b.bit a.exactly b.exactly;
+      stands_is = same_bit s s' a.bit b.bit a.exactly b.exactly;
       place_is = a.place_is ∙ sym b.place_is;
     }
 
@@ -61,12 +61,12 @@ same_left a b =
     }
 
 -- the right answers of two reports are one, so they leave the same
-same-reported :
+same_reported :
     {method : Method} {t : List ℕ} {f : Frame} {buffer : List ℕ} {start n p n' p' : ℕ} {a a' : List ℕ} →
     Reported method t f buffer start n p a →
     Reported method t f buffer start n' p' a' →
     Left n p a n' p' a'
-same-reported {method} {t} {f} {buffer} {start} {n} {p} {n'} {p'} {a} {a'} one other =
+same_reported {method} {t} {f} {buffer} {start} {n} {p} {n'} {p'} {a} {a'} one other =
     let e = only_one_right_answer method (table_question t f) f.requests one.answer other.answer one.right other.right in
     same_left
     (subst (λ (x : Answer). Left n p a 0 (place_after t f start x) (buffer_after method t f buffer start x)) e one.left)
@@ -79,7 +79,7 @@ only_one_answer t selection n s p n' s' p' one other = by (reading t) refl
   where
     within : (f : Frame) → reading t ≡ Accepted f → (high : Bool) → names_above f.requests selection ≡ high → Told n s p n' s' p'
     within f e true h = same_told (one.too_much f e h) (other.too_much f e h)
-    within f e false h = same-stands (one.answered f e h) (other.answered f e h)
+    within f e false h = same_stands (one.answered f e h) (other.answered f e h)
 
     by : (told : Reading) → reading t ≡ told → Told n s p n' s' p'
     by (Accepted f) e = within f e (names_above f.requests selection) refl
@@ -94,7 +94,7 @@ only_one_report :
 only_one_report method t buffer start n p a n' p' a' one other = by (reading t) refl
   where
     within : (f : Frame) → reading t ≡ Accepted f → (room : Bool) → room_for f.requests buffer start ≡ room → Left n p a n' p' a'
-    within f e true h = same-reported (one.reported f e h) (other.reported f e h)
+    within f e true h = same_reported (one.reported f e h) (other.reported f e h)
     within f e false h = same_left (one.no_room f e h) (other.no_room f e h)
 
     by : (told : Reading) → reading t ≡ told → Left n p a n' p' a'
@@ -117,8 +117,8 @@ only_one_outcome =
     }
 
 -- the question is answered
-some-answer : (t : List ℕ) (selection : ℕ) → (number : ℕ) × (stands : ℕ) × (place : ℕ) × CanStandCall t selection number stands place
-some-answer t selection = by (reading t) refl
+some_answer : (t : List ℕ) (selection : ℕ) → (number : ℕ) × (stands : ℕ) × (place : ℕ) × CanStandCall t selection number stands place
+some_answer t selection = by (reading t) refl
   where
     within :
         (f : Frame) → reading t ≡ Accepted f → (high : Bool) → names_above f.requests selection ≡ high →
@@ -131,10 +131,10 @@ some-answer t selection = by (reading t) refl
     by (Refused r) e = (r.number, 0, r.place, can_stand_refused t selection r e)
 
 -- a report is given, or refused
-some-report :
+some_report :
     (method : Method) (t buffer : List ℕ) (start : ℕ) →
     (number : ℕ) × (place : ℕ) × (after : List ℕ) × ReportCall method t buffer start number place after
-some-report method t buffer start = by (reading t) refl
+some_report method t buffer start = by (reading t) refl
   where
     within :
         (f : Frame) → reading t ≡ Accepted f → (room : Bool) → room_for f.requests buffer start ≡ room →
@@ -144,14 +144,14 @@ some-report method t buffer start = by (reading t) refl
           0,
           place_after t f start answer,
           buffer_after method t f buffer start answer,
-          report-written method t buffer start f e h answer
+          report_written method t buffer start f e h answer
               (right_answer method (table_question t f) f.requests (question_is_monotone t f (order_of t f) f.requests)),
         )
     within f e false h = (no_room, 0, buffer, report_no_room method t buffer start f e h)
 
     by : (told : Reading) → reading t ≡ told → (number : ℕ) × (place : ℕ) × (after : List ℕ) × ReportCall method t buffer start number place after
     by (Accepted f) e = within f e (room_for f.requests buffer start) refl
-    by (Refused r) e = (r.number, r.place, buffer, report-refused method t buffer start r e)
+    by (Refused r) e = (r.number, r.place, buffer, report_refused method t buffer start r e)
 
 -- and each has one
 pub every_call_is_answered : EveryCallIsAnswered
@@ -165,6 +165,6 @@ every_call_is_answered =
             place_of_stretch (stretch_of t wanted),
             record { number_is = refl; size_is = refl; place_is = refl },
           );
-      can_stand = some-answer;
-      report = some-report;
+      can_stand = some_answer;
+      report = some_report;
     }

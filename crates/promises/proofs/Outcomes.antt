@@ -11,7 +11,7 @@ use Rattle.table.specs.declared.reading.Reading.{Reading}
 use Rattle.table.specs.declared.reading.Reading.TheVariants.{Accepted, Refused}
 use Rattle.table.specs.Reading.{reading}
 use Rattle.table.specs.Kept.{rows_of}
-use Rattle.meaning.proofs.Standing.{stands-exactly}
+use Rattle.meaning.proofs.Standing.{stands_exactly}
 use Rattle.preference.specs.Answer.{Answer}
 use Rattle.explain.specs.declared.answers.Method.{Method}
 use Rattle.promises.specs.Selecting.{names_above, selection_of, SomeSettingMeets, can_stand}
@@ -38,7 +38,7 @@ module _ {told : Reading} where
 -- a selection stands exactly where some setting meets the host rows and those of the selected requests
 pub can_stand_exactly : (t : List ℕ) (f : Frame) (selection : ℕ) → can_stand t f selection ≡ true ↔ SomeSettingMeets t f selection
 unfolding can_stand
-can_stand_exactly t f selection = stands-exactly (rows_of t f) f.variables (selection_of f.requests selection)
+can_stand_exactly t f selection = stands_exactly (rows_of t f) f.variables (selection_of f.requests selection)
 
 -- 1 or 0 for an answer
 bit_of : (answer : Bool) → cond answer 1 0 ≤ 1
@@ -56,7 +56,7 @@ module _ (t : List ℕ) (selection : ℕ) where
       record {
         refused =
             λ s g. subst (λ (x : Refusal). Told r.number 0 r.place x.number 0 x.place) (one_refusal e g)
-            (record { number_is = refl; stands-is = refl; place_is = refl });
+            (record { number_is = refl; stands_is = refl; place_is = refl });
         too_much = λ f g. not_both g e;
         answered = λ f g. not_both g e;
       }
@@ -67,7 +67,7 @@ module _ (t : List ℕ) (selection : ℕ) where
     can_stand_too_much high =
         record {
           refused = λ r g. not_both e g;
-          too_much = λ f g h. record { number_is = refl; stands-is = refl; place_is = refl };
+          too_much = λ f g h. record { number_is = refl; stands_is = refl; place_is = refl };
           answered = λ other g h. clash (rw (one_frame e g) at high) h;
         }
 
@@ -90,8 +90,8 @@ module _ (t : List ℕ) (selection : ℕ) where
 
 module _ (method : Method) (t buffer : List ℕ) (start : ℕ) where
   -- a report about a table that is refused
-  pub report-refused : (r : Refusal) → reading t ≡ Refused r → ReportCall method t buffer start r.number r.place buffer
-  report-refused r e =
+  pub report_refused : (r : Refusal) → reading t ≡ Refused r → ReportCall method t buffer start r.number r.place buffer
+  report_refused r e =
       record {
         refused =
             λ s g. subst (λ (x : Refusal). Left r.number r.place buffer x.number x.place buffer) (one_refusal e g)
@@ -111,12 +111,12 @@ module _ (method : Method) (t buffer : List ℕ) (start : ℕ) where
         }
 
     -- the report is written
-    pub report-written :
+    pub report_written :
         room_for f.requests buffer start ≡ true →
         (answer : Answer) →
         RightAnswer method (table_question t f) f.requests answer →
         ReportCall method t buffer start 0 (place_after t f start answer) (buffer_after method t f buffer start answer)
-    report-written room answer right =
+    report_written room answer right =
         record {
           refused = λ r g. not_both e g;
           no_room = λ other g h. clash (rw (one_frame e g) at room) h;

@@ -22,10 +22,10 @@ flags_of zero choose = []
 flags_of (suc n) choose = choose 0 ∷ flags_of n (λ k. choose (suc k))
 
 -- there are n of them
-length-flags : (n : ℕ) (choose : ℕ → Bool) → length (flags_of n choose) ≡ n
+length_flags : (n : ℕ) (choose : ℕ → Bool) → length (flags_of n choose) ≡ n
 unfolding flags_of
-length-flags zero choose = refl
-length-flags (suc n) choose = ap suc (length-flags n (λ k. choose (suc k)))
+length_flags zero choose = refl
+length_flags (suc n) choose = ap suc (length_flags n (λ k. choose (suc k)))
 
 -- the flag at a place is the choice of its number
 flag_at : (n : ℕ) (choose : ℕ → Bool) (k : ℕ) → k < n → get_or (flags_of n choose) k false ≡ choose k
@@ -45,7 +45,7 @@ pub every_choice_can_be_lent : (n : ℕ) (chosen : ℕ → Bool) → LentFor n c
 every_choice_can_be_lent n chosen = record { selection = lent.selection; names = names; none_above = lent.none_above }
   where
     lent : LentAs n (flags_of n (λ k. chosen (suc k)))
-    lent = bits_of_some_number n (flags_of n (λ k. chosen (suc k))) (length-flags n (λ k. chosen (suc k)))
+    lent = bits_of_some_number n (flags_of n (λ k. chosen (suc k))) (length_flags n (λ k. chosen (suc k)))
 
     names : (role : ℕ) → 0 < role → role ≤ n → selection_of n lent.selection role ≡ chosen role
     names zero h g = absurd (omega arith)

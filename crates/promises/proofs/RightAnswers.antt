@@ -22,7 +22,7 @@ use Rattle.preference.proofs.Relaxations.{one_by_one_relaxation_is_preferred, ha
 use Rattle.explain.specs.declared.answers.Method.{Method}
 use Rattle.explain.specs.declared.answers.Method.TheVariants.{ConflictByHalving, ConflictOneByOne, RelaxationByHalving, RelaxationOneByOne}
 use Rattle.explain.specs.Methods.{answer_by, asked_by, whole_by, worked_by}
-use Rattle.explain.proofs.Finishing.{answer-is}
+use Rattle.explain.proofs.Finishing.{answer_is}
 use Rattle.promises.specs.Calls.{ConflictSet, RelaxationSet, SetBy, RightAnswer}
 
 module _ (ok : Question) (n : ℕ) (whole : Selection) (worked : Part) where
@@ -43,32 +43,32 @@ module _ (ok : Question) (n : ℕ) (whole : Selection) (worked : Part) where
       (λ h p g e. absurd (omega arith))
 
   -- a preferred conflict where not all can stand is the set of a conflict
-  conflict-set :
+  conflict_set :
       (ok (all n) ≡ false → PreferredConflict ok n (answered ok n whole worked).set) → whole ≡ none n → ConflictSet ok n (answered ok n whole worked)
-  conflict-set preferred empty =
+  conflict_set preferred empty =
       record {
         preferred = λ e. preferred ((status_1 ok n whole worked).0 e).0;
-        all-stand = λ e. whole_where_all_stand e ∙ empty;
-        host-fails = none_where_the_host_fails;
+        all_stand = λ e. whole_where_all_stand e ∙ empty;
+        host_fails = none_where_the_host_fails;
       }
 
   -- a preferred relaxation where the host can stand is the set of a relaxation
-  relaxation-set :
+  relaxation_set :
       (ok (none n) ≡ true → PreferredRelaxation ok n (answered ok n whole worked).set) → whole ≡ all n → RelaxationSet ok n (answered ok n whole worked)
-  relaxation-set preferred full =
+  relaxation_set preferred full =
       record {
         preferred = λ e. preferred ((status_1 ok n whole worked).0 e).1;
-        all-stand = λ e. whole_where_all_stand e ∙ full;
-        host-fails = none_where_the_host_fails;
+        all_stand = λ e. whole_where_all_stand e ∙ full;
+        host_fails = none_where_the_host_fails;
       }
 
 -- the set that a method gives is right
 set_by : (method : Method) (ok : Question) (n : ℕ) → Monotone ok n → SetBy method ok n (answered ok n (whole_by method n) (worked_by method ok n))
 unfolding SetBy whole_by worked_by
-set_by ConflictByHalving ok n monotone = conflict-set ok n (none n) _ (halving_conflict_is_preferred ok n monotone half half_cuts) refl
-set_by ConflictOneByOne ok n monotone = conflict-set ok n (none n) _ (one_by_one_conflict_is_preferred ok n monotone) refl
-set_by RelaxationByHalving ok n monotone = relaxation-set ok n (all n) _ (halving_relaxation_is_preferred ok n monotone half half_cuts) refl
-set_by RelaxationOneByOne ok n monotone = relaxation-set ok n (all n) _ (one_by_one_relaxation_is_preferred ok n monotone) refl
+set_by ConflictByHalving ok n monotone = conflict_set ok n (none n) _ (halving_conflict_is_preferred ok n monotone half half_cuts) refl
+set_by ConflictOneByOne ok n monotone = conflict_set ok n (none n) _ (one_by_one_conflict_is_preferred ok n monotone) refl
+set_by RelaxationByHalving ok n monotone = relaxation_set ok n (all n) _ (halving_relaxation_is_preferred ok n monotone half half_cuts) refl
+set_by RelaxationOneByOne ok n monotone = relaxation_set ok n (all n) _ (one_by_one_relaxation_is_preferred ok n monotone) refl
 
 -- the count of a method is the number of its questions
 count_by : (method : Method) (ok : Question) (n : ℕ) → (answer_by method ok n).asked ≡ length (questions_of ok (asked_by method n))
@@ -82,10 +82,10 @@ count_by RelaxationOneByOne ok n = the_one_by_one_relaxation_count_is_the_number
 pub right_answer : (method : Method) (ok : Question) (n : ℕ) → Monotone ok n → RightAnswer method ok n (answer_by method ok n)
 right_answer method ok n monotone =
     record {
-      status = rw (answer-is method ok n) (status_is_small ok n (whole_by method n) (worked_by method ok n));
-      all-stand = rw (answer-is method ok n) (status_0 ok n (whole_by method n) (worked_by method ok n));
-      host-fails = rw (answer-is method ok n) (status_2 ok n (whole_by method n) (worked_by method ok n) monotone);
-      set = rw (answer-is method ok n) (set_by method ok n monotone);
+      status = rw (answer_is method ok n) (status_is_small ok n (whole_by method n) (worked_by method ok n));
+      all_stand = rw (answer_is method ok n) (status_0 ok n (whole_by method n) (worked_by method ok n));
+      host_fails = rw (answer_is method ok n) (status_2 ok n (whole_by method n) (worked_by method ok n) monotone);
+      set = rw (answer_is method ok n) (set_by method ok n monotone);
       count = count_by method ok n;
     }
 
@@ -99,13 +99,13 @@ same_fields {a} {b} s x c =
     let fields : told a.status a.set a.asked ≡ told b.status b.set b.asked = rw (s, x, c) in fields
 
 -- two statuses that are 0 where the same holds, and 2 where the same holds, are one
-same-status :
+same_status :
     {P Q : Type 0} (a b : ℕ) → a ≤ 2 → b ≤ 2 → (a ≡ 0 ↔ P) → (b ≡ 0 ↔ P) → (a ≡ 2 ↔ Q) → (b ≡ 2 ↔ Q) → a ≡ b
-same-status zero b h g p q r s = sym (q.1 (p.0 refl))
-same-status (suc zero) zero h g p q r s = p.1 (q.0 refl)
-same-status (suc zero) (suc zero) h g p q r s = refl
-same-status (suc zero) (suc (suc b)) h g p q r s = let e : suc (suc b) ≡ 2 = omega arith in r.1 (s.0 e) ∙ sym e
-same-status (suc (suc a)) b h g p q r s = let e : suc (suc a) ≡ 2 = omega arith in e ∙ sym (s.1 (r.0 e))
+same_status zero b h g p q r s = sym (q.1 (p.0 refl))
+same_status (suc zero) zero h g p q r s = p.1 (q.0 refl)
+same_status (suc zero) (suc zero) h g p q r s = refl
+same_status (suc zero) (suc (suc b)) h g p q r s = let e : suc (suc b) ≡ 2 = omega arith in r.1 (s.0 e) ∙ sym e
+same_status (suc (suc a)) b h g p q r s = let e : suc (suc a) ≡ 2 = omega arith in e ∙ sym (s.1 (r.0 e))
 
 -- the three statuses, one by one
 by_status : (P : Type 0) (status : ℕ) → status ≤ 2 → (status ≡ 0 → P) → (status ≡ 1 → P) → (status ≡ 2 → P) → P
@@ -117,16 +117,16 @@ module _ (ok : Question) (n : ℕ) (a b : Answer) (small : a.status ≤ 2) (e : 
   -- of one status there is one set of a conflict
   only_one_conflict_set : ConflictSet ok n a → ConflictSet ok n b → a.set ≡ b.set
   only_one_conflict_set p q =
-      by_status (a.set ≡ b.set) a.status small (λ s. p.all-stand s ∙ sym (q.all-stand (sym e ∙ s)))
+      by_status (a.set ≡ b.set) a.status small (λ s. p.all_stand s ∙ sym (q.all_stand (sym e ∙ s)))
       (λ s. preferred_conflict_is_unique ok n (p.preferred s) (q.preferred (sym e ∙ s)))
-      (λ s. p.host-fails s ∙ sym (q.host-fails (sym e ∙ s)))
+      (λ s. p.host_fails s ∙ sym (q.host_fails (sym e ∙ s)))
 
   -- and one of a relaxation
   only_one_relaxation_set : RelaxationSet ok n a → RelaxationSet ok n b → a.set ≡ b.set
   only_one_relaxation_set p q =
-      by_status (a.set ≡ b.set) a.status small (λ s. p.all-stand s ∙ sym (q.all-stand (sym e ∙ s)))
+      by_status (a.set ≡ b.set) a.status small (λ s. p.all_stand s ∙ sym (q.all_stand (sym e ∙ s)))
       (λ s. preferred_relaxation_is_unique ok n (p.preferred s) (q.preferred (sym e ∙ s)))
-      (λ s. p.host-fails s ∙ sym (q.host-fails (sym e ∙ s)))
+      (λ s. p.host_fails s ∙ sym (q.host_fails (sym e ∙ s)))
 
   -- so there is one by each method
   only_one_set : (method : Method) → SetBy method ok n a → SetBy method ok n b → a.set ≡ b.set
@@ -139,5 +139,5 @@ module _ (ok : Question) (n : ℕ) (a b : Answer) (small : a.status ≤ 2) (e : 
 -- two right answers are one
 pub only_one_right_answer : (method : Method) (ok : Question) (n : ℕ) (a b : Answer) → RightAnswer method ok n a → RightAnswer method ok n b → a ≡ b
 only_one_right_answer method ok n a b p q =
-    let e = same-status a.status b.status p.status q.status p.all-stand q.all-stand p.host-fails q.host-fails in
+    let e = same_status a.status b.status p.status q.status p.all_stand q.all_stand p.host_fails q.host_fails in
     same_fields e (only_one_set ok n a b p.status e method p.set q.set) (p.count ∙ sym q.count)

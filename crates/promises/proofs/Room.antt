@@ -14,6 +14,6 @@ pub room_within : (n : ℕ) (buffer : List ℕ) (start : ℕ) → room_for n buf
 unfolding room_for
 room_within n buffer start e = leb-true start (length buffer) (both (leb start (length buffer)) _ e).0
 
-pub room-enough : (n : ℕ) (buffer : List ℕ) (start : ℕ) → room_for n buffer start ≡ true → 12 + 2 * n ≤ length buffer - start
+pub room_enough : (n : ℕ) (buffer : List ℕ) (start : ℕ) → room_for n buffer start ≡ true → 12 + 2 * n ≤ length buffer - start
 unfolding room_for
-room-enough n buffer start e = leb-true (12 + 2 * n) (length buffer - start) (both (leb start (length buffer)) _ e).1
+room_enough n buffer start e = leb-true (12 + 2 * n) (length buffer - start) (both (leb start (length buffer)) _ e).1

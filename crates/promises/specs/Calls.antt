@@ -38,7 +38,7 @@ pub record BodyCall (t : List ℕ) (wanted number size place : ℕ) : Type 0 whe
 -- what the question returns: its number, answer and place are these
 pub record Told (number stands place : ℕ) (number' stands' place' : ℕ) : Type 0 where
   pub number_is : number ≡ number'
-  pub stands-is : stands ≡ stands'
+  pub stands_is : stands ≡ stands'
   pub place_is : place ≡ place'
 
 -- the answer: 1 exactly where some setting meets the host rows and those of the selected requests, else 0
@@ -57,14 +57,14 @@ pub record CanStandCall (t : List ℕ) (selection number stands place : ℕ) : T
 -- the set of a conflict: the preferred one of Definition 7 where there is one to name (status 1), else none
 pub record ConflictSet (ok : Question) (n : ℕ) (answer : Answer) : Type 0 where
   pub preferred : answer.status ≡ 1 → PreferredConflict ok n answer.set
-  pub all-stand : answer.status ≡ 0 → answer.set ≡ none n
-  pub host-fails : answer.status ≡ 2 → answer.set ≡ none n
+  pub all_stand : answer.status ≡ 0 → answer.set ≡ none n
+  pub host_fails : answer.status ≡ 2 → answer.set ≡ none n
 
 -- the set of a relaxation: the preferred one of Definition 4, all where all can stand, none where the host rows cannot
 pub record RelaxationSet (ok : Question) (n : ℕ) (answer : Answer) : Type 0 where
   pub preferred : answer.status ≡ 1 → PreferredRelaxation ok n answer.set
-  pub all-stand : answer.status ≡ 0 → answer.set ≡ all n
-  pub host-fails : answer.status ≡ 2 → answer.set ≡ none n
+  pub all_stand : answer.status ≡ 0 → answer.set ≡ all n
+  pub host_fails : answer.status ≡ 2 → answer.set ≡ none n
 
 -- the set of an answer by a method
 unfoldable pub SetBy : Method → Question → ℕ → Answer → Type 0
@@ -78,8 +78,8 @@ SetBy RelaxationOneByOne ok n answer = RelaxationSet ok n answer
 -- can do nothing but ask
 pub record RightAnswer (method : Method) (ok : Question) (n : ℕ) (answer : Answer) : Type 0 where
   pub status : answer.status ≤ 2
-  pub all-stand : answer.status ≡ 0 ↔ ok (all n) ≡ true
-  pub host-fails : answer.status ≡ 2 ↔ ok (none n) ≡ false
+  pub all_stand : answer.status ≡ 0 ↔ ok (all n) ≡ true
+  pub host_fails : answer.status ≡ 2 ↔ ok (none n) ≡ false
   pub set : SetBy method ok n answer
   pub count : answer.asked ≡ length (questions_of ok (asked_by method n))
 

@@ -58,12 +58,12 @@ pub record AskedInPublic (t : List ℕ) (f : Frame) (selection : ℕ) : Type 0 w
 -- conflict exactly when all requests can stand together, and no relaxation exactly when the host's rows cannot; where there is one, the set is
 -- the preferred one.
 pub record TheSetsAreRight (t : List ℕ) (f : Frame) : Type 0 where
-  pub stands-exactly : (selection : ℕ) → can_stand t f selection ≡ true ↔ SomeSettingMeets t f selection
+  pub stands_exactly : (selection : ℕ) → can_stand t f selection ≡ true ↔ SomeSettingMeets t f selection
   pub every_selection : (selection : ℕ) → AskedInPublic t f selection
-  pub all-requests : table_question t f (all f.requests) ≡ can_stand t f (2 ^ f.requests - 1)
-  pub host-alone : table_question t f (none f.requests) ≡ can_stand t f 0
-  pub same-conflict : (conflict_by_halving (table_question t f) f.requests).set ≡ (conflict_one_by_one (table_question t f) f.requests).set
-  pub same-relaxation : (relaxation_by_halving (table_question t f) f.requests).set ≡ (relaxation_one_by_one (table_question t f) f.requests).set
+  pub all_requests : table_question t f (all f.requests) ≡ can_stand t f (2 ^ f.requests - 1)
+  pub host_alone : table_question t f (none f.requests) ≡ can_stand t f 0
+  pub same_conflict : (conflict_by_halving (table_question t f) f.requests).set ≡ (conflict_one_by_one (table_question t f) f.requests).set
+  pub same_relaxation : (relaxation_by_halving (table_question t f) f.requests).set ≡ (relaxation_one_by_one (table_question t f) f.requests).set
   pub no_conflict : ((X : Selection) → Conflict (table_question t f) f.requests X → ⊥) ↔ table_question t f (all f.requests) ≡ true
   pub no_relaxation : ((X : Selection) → Relaxation (table_question t f) f.requests X → ⊥) ↔ table_question t f (none f.requests) ≡ false
   pub conflict :

@@ -193,9 +193,9 @@ pub record CallsHold : Type 0 where
   -- H is accepted; damaged, it is refused with 9 at CHECK's first byte, by every call
   pub accepted : ReadCall table_h 0 0
   pub damaged : ReadCall damaged_h 9 86
-  pub damaged-body : BodyCall damaged_h 6 9 0 86
-  pub damaged-question : CanStandCall damaged_h 11 9 0 86
-  pub damaged-report : ReportCall ConflictByHalving damaged_h lent_buffer lent_start 9 86 lent_buffer
+  pub damaged_body : BodyCall damaged_h 6 9 0 86
+  pub damaged_question : CanStandCall damaged_h 11 9 0 86
+  pub damaged_report : ReportCall ConflictByHalving damaged_h lent_buffer lent_start 9 86 lent_buffer
   -- record 6, the ORDER, has its eight bytes from 78 on; there is no record 8
   pub body : BodyCall table_h 6 0 8 78
   pub no_record : BodyCall table_h 8 13 0 92

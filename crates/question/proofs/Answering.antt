@@ -14,8 +14,8 @@ use Rattle.meaning.specs.Meaning.{Setting, meets, meets_all}
 use Rattle.meaning.specs.Stands.{stands, by_role}
 use Rattle.meaning.specs.HalfMade.{Values}
 use Rattle.meaning.proofs.Tested.{every_at, at_every, equal_answers}
-use Rattle.meaning.proofs.Standing.{Passing, meets-stands, stands-meets}
-use Rattle.meaning.proofs.HalfMade.{free-agrees}
+use Rattle.meaning.proofs.Standing.{Passing, meets_stands, stands_meets}
+use Rattle.meaning.proofs.HalfMade.{free_agrees}
 use Rattle.question.specs.Counting.{Noted}
 use Rattle.question.specs.Completing.{Completion, Completed, MeetsFirst, MeetsCounting}
 use Rattle.question.proofs.Noting.{every_counting}
@@ -27,8 +27,8 @@ copied values work rest e = rw (e, take-length values) (take-append_seam values 
 
 -- a search over the places of the rows that count is one over these rows
 module _ (t : List ℕ) (f : Frame) (chosen : List Bool) (places : List ℕ) (noted : ℕ) (counting : Noted (by_role chosen) f.rows t places noted) where
-  long-enough : length (take noted places) ≡ noted
-  long-enough = length-take-le noted places counting.few
+  long_enough : length (take noted places) ≡ noted
+  long_enough = length-take-le noted places counting.few
 
   module _ (setting : Setting) where
     same_met : every (λ place. meets setting (row_at t place)) (take noted places) ≡ meets_all (by_role chosen) setting (rows_of t f)
@@ -38,14 +38,14 @@ module _ (t : List ℕ) (f : Frame) (chosen : List Bool) (places : List ℕ) (no
     all_met met =
         sym same_met
         ∙ at_every (λ place. meets setting (row_at t place)) (take noted places) 0
-        (λ i h. let below : i < noted = omega (arith, long-enough) in rw (get_or-take noted places i 0 below) (met.each i below))
+        (λ i h. let below : i < noted = omega (arith, long_enough) in rw (get_or-take noted places i 0 below) (met.each i below))
 
     each_met : MeetsCounting t f chosen setting → MeetsFirst t places noted setting
     each_met met =
         record {
           each = λ i h.
               rw (get_or-take noted places i 0 h) at
-              (every_at (λ place. meets setting (row_at t place)) (take noted places) 0 i (same_met ∙ met) (omega (arith, long-enough)));
+              (every_at (λ place. meets setting (row_at t place)) (take noted places) 0 i (same_met ∙ met) (omega (arith, long_enough)));
         }
 
   pub rows_searched :
@@ -62,16 +62,16 @@ module _ (t : List ℕ) (f : Frame) (chosen : List Bool) (values : Values) (answ
   yes_stands : answer ≡ true → stands (rows_of t f) f.variables (by_role chosen) ≡ true
   yes_stands e =
       let found : Completion (MeetsCounting t f chosen) values = done.found e in
-      meets-stands (rows_of t f) f.variables (by_role chosen) found.setting (found.agrees.each ∙ long) found.passes
+      meets_stands (rows_of t f) f.variables (by_role chosen) found.setting (found.agrees.each ∙ long) found.passes
 
-  stands-found : stands (rows_of t f) f.variables (by_role chosen) ≡ true → Completion (MeetsCounting t f chosen) values
-  stands-found e =
-      let s : Passing (λ setting. meets_all (by_role chosen) setting (rows_of t f)) f.variables = stands-meets (rows_of t f) f.variables (by_role chosen) e in
-      record { setting = s.setting; agrees = free-agrees values s.setting (s.each ∙ sym long) free; passes = s.passes }
+  stands_found : stands (rows_of t f) f.variables (by_role chosen) ≡ true → Completion (MeetsCounting t f chosen) values
+  stands_found e =
+      let s : Passing (λ setting. meets_all (by_role chosen) setting (rows_of t f)) f.variables = stands_meets (rows_of t f) f.variables (by_role chosen) e in
+      record { setting = s.setting; agrees = free_agrees values s.setting (s.each ∙ sym long) free; passes = s.passes }
 
   stands_yes : (given : Bool) → answer ≡ given → stands (rows_of t f) f.variables (by_role chosen) ≡ true → given ≡ true
   stands_yes true e s = refl
-  stands_yes false e s = absurd (done.none e (stands-found s))
+  stands_yes false e s = absurd (done.none e (stands_found s))
 
   pub answered : answer ≡ stands (rows_of t f) f.variables (by_role chosen)
   answered = equal_answers answer (stands (rows_of t f) f.variables (by_role chosen)) yes_stands (stands_yes answer refl)

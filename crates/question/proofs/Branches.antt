@@ -14,7 +14,7 @@ use Rattle.meaning.proofs.HalfMade.{agrees_freed}
 use Rattle.question.specs.Rearranging.{Rearranged}
 use Rattle.question.specs.Completing.{Completion, MeetsFirst}
 use Rattle.question.specs.Trail.{Decided}
-use Rattle.question.proofs.Rearranging.{rearranged-within}
+use Rattle.question.proofs.Rearranging.{rearranged_within}
 use Rattle.question.proofs.Seeing.{met_before}
 
 -- the nodes of a whole tree of decisions over so many variables
@@ -82,7 +82,7 @@ module _ (t start : List ℕ) (noted : ℕ) (base : Values) where
       record {
         few = decide.few;
         enough = λ setting agrees met.
-            decide.enough setting agrees (met_before t count places after (rearranged-within few count places after h moved) setting met);
+            decide.enough setting agrees (met_before t count places after (rearranged_within few count places after h moved) setting met);
       }
 
   -- the open rows may be rearranged
@@ -118,19 +118,19 @@ module _ (t start : List ℕ) (noted : ℕ) (base : Values) where
   )
 
   -- a setting with the decided values has those of the start
-  pub trail-agrees :
+  pub trail_agrees :
       (places : List ℕ) (trail : List Decided) (count : ℕ) (values : Values) (setting : Setting) →
       Trail places trail count values →
       Agrees values setting →
       Agrees base setting
   unfolding Trail
-  trail-agrees places [] count values setting same agrees = rw (← same) agrees
-  trail-agrees places (last ∷ earlier) count values setting (waits, more) agrees =
-      trail-agrees places earlier (open_in last.waiting count) (set values last.variable 2) setting more
+  trail_agrees places [] count values setting same agrees = rw (← same) agrees
+  trail_agrees places (last ∷ earlier) count values setting (waits, more) agrees =
+      trail_agrees places earlier (open_in last.waiting count) (set values last.variable 2) setting more
       (agrees_freed values last.variable setting waits.inside agrees)
 
-  pub trail-length : (places : List ℕ) (trail : List Decided) (count : ℕ) (values : Values) → Trail places trail count values → length values ≡ length base
+  pub trail_length : (places : List ℕ) (trail : List Decided) (count : ℕ) (values : Values) → Trail places trail count values → length values ≡ length base
   unfolding Trail
-  trail-length places [] count values same = ap length same
-  trail-length places (last ∷ earlier) count values (waits, more) =
-      simp length-set at (trail-length places earlier (open_in last.waiting count) (set values last.variable 2) more)
+  trail_length places [] count values same = ap length same
+  trail_length places (last ∷ earlier) count values (waits, more) =
+      simp length-set at (trail_length places earlier (open_in last.waiting count) (set values last.variable 2) more)

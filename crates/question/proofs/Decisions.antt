@@ -15,11 +15,11 @@ module _ (variables waiting : List ℕ) where
   -- how far the loop has come: what is to be taken back of the first `left` decisions is what was to be taken back of all
   pub record TakingBack (depth left : ℕ) (before values : Values) : Type 0 where
     pub few : left ≤ depth
-    pub same-trail : back_to (decisions variables waiting left) ≡ back_to (decisions variables waiting depth)
+    pub same_trail : back_to (decisions variables waiting left) ≡ back_to (decisions variables waiting depth)
     pub same_values : values_back (decisions variables waiting left) values ≡ values_back (decisions variables waiting depth) before
 
   pub back_start : (depth : ℕ) (values : Values) → TakingBack depth depth values values
-  back_start depth values = record { few = omega arith; same-trail = refl; same_values = refl }
+  back_start depth values = record { few = omega arith; same_trail = refl; same_values = refl }
 
   last_trail :
       (left : ℕ) →
@@ -45,7 +45,7 @@ module _ (variables waiting : List ℕ) where
     back_turn h e =
         record {
           few = omega (arith, taking.few);
-          same-trail = sym (rw (eq-eqb _ _ e) at (last_trail left h)) ∙ taking.same-trail;
+          same_trail = sym (rw (eq-eqb _ _ e) at (last_trail left h)) ∙ taking.same_trail;
           same_values = sym (rw (eq-eqb _ _ e) at (last_values left values h)) ∙ taking.same_values;
         }
 
@@ -54,14 +54,14 @@ module _ (variables waiting : List ℕ) where
     back_stop h differ =
         record {
           few = taking.few;
-          trail = sym (rw (ne_eqb _ _ differ) at (last_trail left h)) ∙ taking.same-trail;
+          trail = sym (rw (ne_eqb _ _ differ) at (last_trail left h)) ∙ taking.same_trail;
           values_back = sym (rw (ne_eqb _ _ differ) at (last_values left values h)) ∙ taking.same_values;
         }
 
     -- no decision is left
     pub back_end : left ≡ 0 → TakenBack variables waiting depth 0 before values
     unfolding decisions back_to values_back
-    back_end e = record { few = omega arith; trail = rw e at taking.same-trail; values_back = rw e at taking.same_values }
+    back_end e = record { few = omega arith; trail = rw e at taking.same_trail; values_back = rw e at taking.same_values }
 
 -- what holds of a trail and its values still holds when decisions are taken back, if it does after one of which both values are tried
 module _ (Holds : List Decided → Values → Type 0)
@@ -101,18 +101,18 @@ back_waits (first ∷ more) last earlier e = go (eqb first.waiting 0) refl e (ba
         rw (← same) (omega arith)
 
 -- trails that are equal in their first entries have the same decisions
-pub decisions-same :
+pub decisions_same :
     (variables waiting variables' waiting' : List ℕ) (depth : ℕ) →
     ((k : ℕ) → k < depth → get_or variables' k 0 ≡ get_or variables k 0) →
     ((k : ℕ) → k < depth → get_or waiting' k 0 ≡ get_or waiting k 0) →
     decisions variables' waiting' depth ≡ decisions variables waiting depth
 unfolding decisions
-decisions-same variables waiting variables' waiting' zero same same-waiting = refl
-decisions-same variables waiting variables' waiting' (suc depth) same same-waiting =
+decisions_same variables waiting variables' waiting' zero same same-waiting = refl
+decisions_same variables waiting variables' waiting' (suc depth) same same-waiting =
     rw (
       same depth (omega arith),
       same-waiting depth (omega arith),
-      decisions-same variables waiting variables' waiting' depth (λ k h. same k (omega arith)) (λ k h. same-waiting k (omega arith)),
+      decisions_same variables waiting variables' waiting' depth (λ k h. same k (omega arith)) (λ k h. same-waiting k (omega arith)),
     )
 
 pub length-decisions : (variables waiting : List ℕ) (depth : ℕ) → length (decisions variables waiting depth) ≡ depth
@@ -131,20 +131,20 @@ decisions_last variables waiting zero h = absurd (omega arith)
 decisions_last variables waiting (suc depth) h = let e : suc depth - 1 ≡ depth = omega arith in rw e refl
 
 -- one decision more
-pub decisions-more :
+pub decisions_more :
     (variables waiting : List ℕ) (depth variable wait : ℕ) →
     depth < length variables →
     depth < length waiting →
     decisions (set variables depth variable) (set waiting depth wait) (depth + 1)
     ≡ record { variable = variable; waiting = wait } ∷ decisions variables waiting depth
 unfolding decisions
-decisions-more variables waiting depth variable wait a b =
+decisions_more variables waiting depth variable wait a b =
     let e : depth + 1 ≡ suc depth = omega arith in
     rw (
       e,
       get_or-set_same variables depth variable 0 a,
       get_or-set_same waiting depth wait 0 b,
-      decisions-same variables waiting (set variables depth variable) (set waiting depth wait) depth
+      decisions_same variables waiting (set variables depth variable) (set waiting depth wait) depth
           (λ k h. get_or-set_other variables depth k variable 0 (λ e. omega arith)) (λ k h. get_or-set_other waiting depth k wait 0 (λ e. omega arith)),
     )
 
@@ -159,6 +159,6 @@ decisions_turned variables waiting depth h inside =
     decisions_last variables (set waiting (depth - 1) 0) depth h
     ∙ rw (
       get_or-set_same waiting (depth - 1) 0 0 inside,
-      decisions-same variables waiting variables (set waiting (depth - 1) 0) (depth - 1)
+      decisions_same variables waiting variables (set waiting (depth - 1) 0) (depth - 1)
           (λ k below. refl) (λ k below. get_or-set_other waiting (depth - 1) k 0 0 (λ e. omega arith)),
     )

@@ -17,8 +17,8 @@ use Rattle.question.specs.declared.looking.Seen.TheVariants.{Fails, Met, Open}
 use Rattle.question.specs.Trail.{decisions, TrailLent, TakenBack}
 use Rattle.question.specs.declared.looking.Decision.{Decision}
 use Rattle.question.proofs.Rearranging.{asked_open}
-use Rattle.question.proofs.Decisions.{back_keeps, back_waits, length-decisions, decisions_last, decisions-more, decisions_turned}
-use Rattle.question.proofs.Branches.{nodes, ahead, open_in, Waits, Trail, trail-length}
+use Rattle.question.proofs.Decisions.{back_keeps, back_waits, length-decisions, decisions_last, decisions_more, decisions_turned}
+use Rattle.question.proofs.Branches.{nodes, ahead, open_in, Waits, Trail, trail_length}
 use Rattle.question.proofs.Searching.{Reached, Failed, reached_start, found_all, branch_fails, decided_next}
 use Rattle.question.proofs.Searching.{fewer_nodes, failed_back, none_left, last_waits, turned, fewer_turned}
 
@@ -44,7 +44,7 @@ module _ (t start : List ℕ) (noted : ℕ) (base : Values) (variables waiting :
       length base < 65536 →
       RowsAsked t places count (length values) × (length values < 65536)
   may_look places depth count values reached same asked few =
-      rw (trail-length t start noted base places (decisions variables waiting depth) count values reached.path)
+      rw (trail_length t start noted base places (decisions variables waiting depth) count values reached.path)
       (asked_open t start places noted count (length base) reached.moved same reached.here.few asked, few)
 
   module _ (places : List ℕ) (depth count : ℕ) (values : Values)
@@ -67,16 +67,16 @@ module _ (t start : List ℕ) (noted : ℕ) (base : Values) (variables waiting :
         branch_fails t start noted base places (decisions variables waiting depth) count values reached after looked.rearranged (rw e at looked.tells)
 
   -- each decision is over a variable that there is
-  trail-inside :
+  trail_inside :
       (places : List ℕ) (depth count : ℕ) (values : Values) →
       Trail t start noted base places (decisions variables waiting depth) count values →
       (k : ℕ) →
       k < depth →
       get_or variables k 0 < length values
   unfolding Trail decisions
-  trail-inside places zero count values path k h = absurd (omega arith)
-  trail-inside places (suc depth) count values (waits, more) k h =
-      go (ltb k depth) refl (trail-inside places depth (open_in (get_or waiting depth 0) count) (set values (get_or variables depth 0) 2) more k)
+  trail_inside places zero count values path k h = absurd (omega arith)
+  trail_inside places (suc depth) count values (waits, more) k h =
+      go (ltb k depth) refl (trail_inside places depth (open_in (get_or waiting depth 0) count) (set values (get_or variables depth 0) 2) more k)
     where
       go :
           (less : Bool) →
@@ -93,11 +93,11 @@ module _ (t start : List ℕ) (noted : ℕ) (base : Values) (variables waiting :
       length base ≤ length variables →
       length base ≤ length waiting →
       TrailLent values variables waiting depth
-  may_take_back places depth count values reached few few-waiting =
+  may_take_back places depth count values reached few few_waiting =
       record {
         few = omega (arith, depth_most places depth count values reached);
-        few-waiting = omega (arith, depth_most places depth count values reached);
-        inside = trail-inside places depth count values reached.path;
+        few_waiting = omega (arith, depth_most places depth count values reached);
+        inside = trail_inside places depth count values reached.path;
       }
 
   module _ (many : ℕ) (places : List ℕ) (count depth left : ℕ) (values now-values : Values)
@@ -149,8 +149,8 @@ module _ (t start : List ℕ) (noted : ℕ) (base : Values) (variables waiting :
     pub open_rows : LeftOpen t values count after decision
     open_rows = rw is_open at looked.tells
 
-    pub trail-room : depth < length base
-    trail-room =
+    pub trail_room : depth < length base
+    trail_room =
         omega (
           arith,
           reached.room,
@@ -163,7 +163,7 @@ module _ (t start : List ℕ) (noted : ℕ) (base : Values) (variables waiting :
           Reached t start noted base after (decisions (set variables depth decision.variable) (set waiting depth decision.left) (depth + 1))
           decision.left (set values decision.variable decision.first)
       one_deeper =
-          rw (decisions-more variables waiting depth decision.variable decision.left inside inside-waiting)
+          rw (decisions_more variables waiting depth decision.variable decision.left inside inside-waiting)
           (decided_next t start noted base places (decisions variables waiting depth) count values reached after looked.rearranged decision open_rows)
 
       pub fewer_deeper :
@@ -173,5 +173,5 @@ module _ (t start : List ℕ) (noted : ℕ) (base : Values) (variables waiting :
           (set values decision.variable decision.first)
           < nodes (undecided values) + ahead (decisions variables waiting depth) values
       fewer_deeper wait =
-          rw (decisions-more variables waiting depth decision.variable wait inside inside-waiting)
+          rw (decisions_more variables waiting depth decision.variable wait inside inside-waiting)
           (fewer_nodes t start noted base places (decisions variables waiting depth) count values reached after looked.rearranged decision open_rows wait)

@@ -78,13 +78,13 @@ noted_asked t f chosen places noted variables asked counting h =
         let long : length (take noted places) ≡ noted = length-take-le noted places counting.few in
         let many : i < length (counting_places (by_role chosen) f.rows t first_row) = omega (arith, ap length counting.places_noted) in
         rw (← get_or-take noted places i 0 below, counting.places_noted)
-        (counting_kept (by_role chosen) f.variables f.requests t f.rows first_row f.order asked.kept.rows-kept i many)
+        (counting_kept (by_role chosen) f.variables f.requests t f.rows first_row f.order asked.kept.rows_kept i many)
 
 -- with the host's entry true, what counts is what is chosen
-counts-chosen : (chosen : List Bool) → get_or chosen 0 false ≡ true → (role : ℕ) → counts (by_role chosen) role ≡ get_or chosen role false
+counts_chosen : (chosen : List Bool) → get_or chosen 0 false ≡ true → (role : ℕ) → counts (by_role chosen) role ≡ get_or chosen role false
 unfolding counts
-counts-chosen chosen host zero = sym host
-counts-chosen chosen host (suc role) = rw (eqb-suc-zero role)
+counts_chosen chosen host zero = sym host
+counts_chosen chosen host (suc role) = rw (eqb-suc-zero role)
 
 -- of rows that are left the first adds its place where it counts
 counting_turn :
@@ -98,12 +98,12 @@ counting_turn chosen (suc k) t at h =
     ap (λ (n : ℕ). cond (counts chosen (role_of (row_at t at))) (at ∷ counting_places chosen n t (after t at)) (counting_places chosen n t (after t at))) e
 
 -- a place is written behind those that are noted, and stays where its row counts
-place-written :
+place_written :
     (counting : Bool) (places : List ℕ) (noted at : ℕ) (more : List ℕ) → noted < length places →
     take (noted + value_of counting) (set places noted at) ++ more ≡ take noted places ++ cond counting (at ∷ more) more
 unfolding value_of
-place-written true places noted at more h = rw (add-one, take-suc-set places noted at h) (append_assoc (take noted places) (at ∷ []) more)
-place-written false places noted at more h =
+place_written true places noted at more h = rw (add-one, take-suc-set places noted at h) (append_assoc (take noted places) (at ∷ []) more)
+place_written false places noted at more h =
     ap (λ (l : List ℕ). l ++ more) (ap (λ (n : ℕ). take n (set places noted at)) (add-zero noted) ∙ take-set-le noted places noted at (omega arith))
 
 -- one turn of the walk
@@ -118,7 +118,7 @@ module _ (t : List ℕ) (f : Frame) (chosen : List Bool) (asked : MayAsk t f cho
   role_there role is = omega (arith, asked.each, row_role f.variables f.requests t at row_here)
 
   row_counts : (role : ℕ) → role ≡ u16_at t (at + 4) → counts (by_role chosen) (role_of (row_at t at)) ≡ get_or chosen role false
-  row_counts role is = rw (role_at f.variables f.requests t at row_here, ← is) (counts-chosen chosen asked.host role)
+  row_counts role is = rw (role_at f.variables f.requests t at row_here, ← is) (counts_chosen chosen asked.host role)
 
   -- what is noted and what is still to come stay the whole
   pub note_turn :
@@ -130,7 +130,7 @@ module _ (t : List ℕ) (f : Frame) (chosen : List Bool) (asked : MayAsk t f cho
       ≡ take noted places ++ counting_places (by_role chosen) left t at
   note_turn places noted role taken room is e =
       rw (e, counting_turn (by_role chosen) left t at more, row_counts role is)
-      (place-written (get_or chosen role false) places noted at (counting_places (by_role chosen) (left - 1) t (after t at)) room)
+      (place_written (get_or chosen role false) places noted at (counting_places (by_role chosen) (left - 1) t (after t at)) room)
 
 -- no row is left: the places of all that count are noted
 pub all_noted :

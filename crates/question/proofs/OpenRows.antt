@@ -39,8 +39,8 @@ module _ (t : List ℕ) (values : Values) (count : ℕ) (before : List ℕ) wher
     module _ (room : count ≤ length places) (order : kept ≤ next) (more : next < count)
         (state : ℕ) (tested : state ≡ row_state values (row_at t (get_or places next 0))) where
       -- the row at hand cannot be met
-      pub row-lost : 1 < state → (left : ℕ) → count < left → Narrowed t values count before (exchanged places 0 next) left
-      row-lost never left beyond =
+      pub row_lost : 1 < state → (left : ℕ) → count < left → Narrowed t values count before (exchanged places 0 next) left
+      row_lost never left beyond =
           record {
             reduced = record {
               rearranged = rearranged_twice count before places (exchanged places 0 next)

@@ -40,7 +40,7 @@ pub rearranged_not : (count : ℕ) (list : List ℕ) → Rearranged count list l
 rearranged_not count list =
     record {
       none_new = λ i h. record { place = i; below = h; there = refl };
-      none-lost = λ i h. record { place = i; below = h; there = refl };
+      none_lost = λ i h. record { place = i; below = h; there = refl };
       others = λ i h. refl;
     }
 
@@ -52,19 +52,19 @@ rearranged_twice count first second third p q =
           let x : Among second count (get_or third i 0) = q.none_new i h in
           let y : Among first count (get_or second x.place 0) = p.none_new x.place x.below in
           record { place = y.place; below = y.below; there = y.there ∙ x.there };
-      none-lost = λ i h.
-          let x : Among second count (get_or first i 0) = p.none-lost i h in
-          let y : Among third count (get_or second x.place 0) = q.none-lost x.place x.below in
+      none_lost = λ i h.
+          let x : Among second count (get_or first i 0) = p.none_lost i h in
+          let y : Among third count (get_or second x.place 0) = q.none_lost x.place x.below in
           record { place = y.place; below = y.below; there = y.there ∙ x.there };
       others = λ i h. q.others i h ∙ p.others i h;
     }
 
 -- what is rearranged within fewer is rearranged within more
-pub rearranged-within : (few many : ℕ) (before after : List ℕ) → few ≤ many → Rearranged few before after → Rearranged many before after
-rearranged-within few many before after h r =
+pub rearranged_within : (few many : ℕ) (before after : List ℕ) → few ≤ many → Rearranged few before after → Rearranged many before after
+rearranged_within few many before after h r =
     record {
       none_new = λ i below. new i below (ltb i few) refl;
-      none-lost = λ i below. lost i below (ltb i few) refl;
+      none_lost = λ i below. lost i below (ltb i few) refl;
       others = λ i above. r.others i (omega arith);
     }
   where
@@ -73,7 +73,7 @@ rearranged-within few many before after h r =
     new i below false p = record { place = i; below = below; there = sym (r.others i (ltb-false i few p)) }
 
     lost : (i : ℕ) → i < many → (less : Bool) → ltb i few ≡ less → Among after many (get_or before i 0)
-    lost i below true p = let x = r.none-lost i (ltb-true i few p) in record { place = x.place; below = omega (arith, x.below); there = x.there }
+    lost i below true p = let x = r.none_lost i (ltb-true i few p) in record { place = x.place; below = omega (arith, x.below); there = x.there }
     lost i below false p = record { place = i; below = below; there = r.others i (ltb-false i few p) }
 
 -- an exchange of two of the first entries rearranges them
@@ -82,7 +82,7 @@ pub exchange_rearranges :
 exchange_rearranges count list one other h a b =
     record {
       none_new = λ i below. new i below (eqb i one) (eqb i other) refl refl;
-      none-lost = λ i below. lost i below (eqb i one) (eqb i other) refl refl;
+      none_lost = λ i below. lost i below (eqb i one) (eqb i other) refl refl;
       others = λ i above. at_third list one other (omega arith) (omega arith) i (λ e. omega arith) (λ e. omega arith);
     }
   where
@@ -111,13 +111,13 @@ unfolding exchanged
 length_exchanged list one other = simp length-set
 
 -- rows that may be read may be read where they are rearranged
-pub asked-rearranged :
+pub asked_rearranged :
     (t before after : List ℕ) (count variables : ℕ) →
     Rearranged count before after →
     length after ≡ length before →
     RowsAsked t before count variables →
     RowsAsked t after count variables
-asked-rearranged t before after count variables r h asked =
+asked_rearranged t before after count variables r h asked =
     record {
       few = omega (arith, asked.few);
       each = λ i below. let x : Among before count (get_or after i 0) = r.none_new i below in rw (← x.there) (asked.each x.place x.below);
@@ -128,4 +128,4 @@ pub asked_open :
     (t before after : List ℕ) (count left variables : ℕ) → Rearranged count before after → length after ≡ length before → left ≤ count →
     RowsAsked t before count variables → RowsAsked t after left variables
 asked_open t before after count left variables r h few asked =
-    asked_fewer t after left count variables few (asked-rearranged t before after count variables r h asked)
+    asked_fewer t after left count variables few (asked_rearranged t before after count variables r h asked)

@@ -12,15 +12,15 @@ use borrow.Author.Tests.{eq-eqb, ne_eqb}
 use Rattle.meaning.specs.Meaning.{Setting}
 use Rattle.meaning.specs.HalfMade.{Values, Agrees, undecided}
 use Rattle.meaning.proofs.HalfMade.{agrees_freed, agrees_with, agrees_without, set_back, one_or_other}
-use Rattle.meaning.proofs.HalfMade.{undecided-most, undecided_changed, undecided_turned, fewer_undecided}
+use Rattle.meaning.proofs.HalfMade.{undecided_most, undecided_changed, undecided_turned, fewer_undecided}
 use Rattle.question.specs.Rearranging.{Rearranged}
 use Rattle.question.specs.Completing.{Completion, MeetsFirst}
 use Rattle.question.specs.Looking.{LeftOpen}
 use Rattle.question.specs.Trail.{Decided}
 use Rattle.question.specs.declared.looking.Decision.{Decision}
-use Rattle.question.proofs.Rearranging.{rearranged_not, rearranged_twice, rearranged-within}
+use Rattle.question.proofs.Rearranging.{rearranged_not, rearranged_twice, rearranged_within}
 use Rattle.question.proofs.Seeing.{passing_too, met_before, met_after, met_whole}
-use Rattle.question.proofs.Branches.{nodes, ahead, open_in, Decides, Waits, Trail, Pending, trail_moved, trail_fewer, trail-agrees}
+use Rattle.question.proofs.Branches.{nodes, ahead, open_in, Decides, Waits, Trail, Pending, trail_moved, trail_fewer, trail_agrees}
 
 -- two trees over fewer variables have fewer nodes
 some_nodes : (variables : ℕ) → 1 ≤ nodes variables
@@ -60,7 +60,7 @@ module _ (t start : List ℕ) (noted : ℕ) (base : Values) where
         here = record { few = omega arith; enough = λ setting agrees met. met };
         path = refl;
         tried = inl;
-        room = omega (arith, undecided-most base);
+        room = omega (arith, undecided_most base);
       }
 
   module _ (places : List ℕ) (trail : List Decided) (count : ℕ) (values : Values) (reached : Reached places trail count values) where
@@ -69,13 +69,13 @@ module _ (t start : List ℕ) (noted : ℕ) (base : Values) where
     found_all found =
         record {
           setting = found.setting;
-          agrees = trail-agrees t start noted base places trail count values found.setting reached.path found.agrees;
+          agrees = trail_agrees t start noted base places trail count values found.setting reached.path found.agrees;
           passes = reached.here.enough found.setting found.agrees found.passes;
         }
 
     module _ (after : List ℕ) (moved : Rearranged count places after) where
       moved_on : Rearranged noted start after
-      moved_on = rearranged_twice noted start places after reached.moved (rearranged-within count noted places after reached.here.few moved)
+      moved_on = rearranged_twice noted start places after reached.moved (rearranged_within count noted places after reached.here.few moved)
 
       path_on : Trail t start noted base after trail count values
       path_on = trail_moved t start noted base places after trail count count values (omega arith) moved reached.path

@@ -10,13 +10,13 @@ use borrow.Author.Tests.{ltb-true, ltb-false}
 use Rattle.meaning.specs.Meaning.{Setting}
 use Rattle.meaning.specs.HalfMade.{Values, is_free, Agrees}
 use Rattle.meaning.proofs.HalfMade.{settled, settled_agrees}
-use Rattle.meaning.proofs.Pruning.{decided-meets}
+use Rattle.meaning.proofs.Pruning.{decided_meets}
 use Rattle.question.specs.declared.looking.Seen.TheVariants.{Fails, Met, Open}
 use Rattle.question.specs.Rearranging.{Among, Rearranged}
 use Rattle.question.specs.Completing.{Completion, MeetsAt, MeetsFirst}
 use Rattle.question.specs.Narrowing.{Reduced, Narrowed}
 use Rattle.question.specs.Looking.{Looked}
-use Rattle.question.proofs.Rearranging.{rearranged_twice, rearranged-within}
+use Rattle.question.proofs.Rearranging.{rearranged_twice, rearranged_within}
 
 -- a completion stays one for a test that passes where the other does
 pub passing_too :
@@ -30,7 +30,7 @@ passing_too more found = record { setting = found.setting; agrees = found.agrees
 module _ (t : List ℕ) (count : ℕ) (before after : List ℕ) (moved : Rearranged count before after) where
   pub met_before : (setting : Setting) → MeetsFirst t after count setting → MeetsFirst t before count setting
   met_before setting met =
-      record { each = λ i h. let x : Among after count (get_or before i 0) = moved.none-lost i h in rw (← x.there) (met.each x.place x.below) }
+      record { each = λ i h. let x : Among after count (get_or before i 0) = moved.none_lost i h in rw (← x.there) (met.each x.place x.below) }
 
   pub met_after : (setting : Setting) → MeetsFirst t before count setting → MeetsFirst t after count setting
   met_after setting met =
@@ -50,8 +50,8 @@ met_whole t places left count setting others met = record { each = λ i h. at_pl
 
 module _ (t : List ℕ) (values : Values) (count : ℕ) (before after : List ℕ) (left : ℕ) (reduced : Reduced t values count before after left) where
   -- some row cannot be met
-  pub row-fails : count < left → Looked t values count before after Fails
-  row-fails h = record { rearranged = reduced.rearranged; tells = reduced.lost h }
+  pub row_fails : count < left → Looked t values count before after Fails
+  row_fails h = record { rearranged = reduced.rearranged; tells = reduced.lost h }
 
   module _ (few : left ≤ count) where
     whole : (setting : Setting) → Agrees values setting → MeetsFirst t after left setting → MeetsFirst t before count setting
@@ -89,7 +89,7 @@ module _ (t : List ℕ) (values : Values) (count : ℕ) (before after : List ℕ
     module _ (places : List ℕ) (again : ℕ) (narrowed : Narrowed t values left after places again) where
       moved_on : Rearranged count before places
       moved_on =
-          rearranged_twice count before after places reduced.rearranged (rearranged-within left count after places few narrowed.reduced.rearranged)
+          rearranged_twice count before after places reduced.rearranged (rearranged_within left count after places few narrowed.reduced.rearranged)
 
       pub not_met : left < again → Looked t values count before places Fails
       not_met h = record { rearranged = moved_on; tells = λ found. narrowed.reduced.lost h (passing_too part found) }
@@ -108,4 +108,4 @@ module _ (t : List ℕ) (values : Values) (count : ℕ) (before after : List ℕ
           all_met : MeetsFirst t places left (settled values)
           all_met =
               met_whole t places again left (settled values) (λ i a b. narrowed.reduced.hold h i a b (settled values) (settled_agrees values))
-              (record { each = λ i below. decided-meets values (settled values) (settled_agrees values) none _ (narrowed.may_hold h i below) })
+              (record { each = λ i below. decided_meets values (settled values) (settled_agrees values) none _ (narrowed.may_hold h i below) })

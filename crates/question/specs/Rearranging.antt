@@ -14,5 +14,5 @@ pub record Among (list : List ℕ) (count entry : ℕ) : Type 0 where
 -- the first `count` entries are rearranged: none is lost and none is new; the others stay
 pub record Rearranged (count : ℕ) (before after : List ℕ) : Type 0 where
   pub none_new : (i : ℕ) → i < count → Among before count (get_or after i 0)
-  pub none-lost : (i : ℕ) → i < count → Among after count (get_or before i 0)
+  pub none_lost : (i : ℕ) → i < count → Among after count (get_or before i 0)
   pub others : (i : ℕ) → count ≤ i → get_or after i 0 ≡ get_or before i 0

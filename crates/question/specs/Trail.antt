@@ -16,12 +16,12 @@ decisions variables waiting (suc depth) = record { variable = get_or variables d
 pub record TrailRoom (values : Values) (variables waiting : List ℕ) : Type 0 where
   pub numbered : length values < 65536
   pub each : length values ≤ length variables
-  pub each-waiting : length values ≤ length waiting
+  pub each_waiting : length values ≤ length waiting
 
 -- a trail of so many decisions, each over a variable that there is
 pub record TrailLent (values : Values) (variables waiting : List ℕ) (depth : ℕ) : Type 0 where
   pub few : depth ≤ length variables
-  pub few-waiting : depth ≤ length waiting
+  pub few_waiting : depth ≤ length waiting
   pub inside : (k : ℕ) → k < depth → get_or variables k 0 < length values
 
 -- what is left of the decisions when those at the end of which both values are tried are taken back

@@ -10,7 +10,7 @@ use lib.Seq.{sets, drop-cons}
 use Rattle.preference.specs.Selection.{Selection}
 use Rattle.preference.specs.Named.{named}
 use Rattle.table.specs.Encoding.{u16, encode_numbers}
-use Rattle.table.proofs.Sizes.{length-numbers, numbers-append}
+use Rattle.table.proofs.Sizes.{length_numbers, numbers_append}
 use Rattle.report.specs.Written.{NumbersWritten}
 use Rattle.report.proofs.Stores.{sets-append}
 
@@ -72,11 +72,11 @@ module _ (order : List ℕ) (flags : Selection) (before : List ℕ) where
   bytes_turn i k next now after h e w =
       let here : List ℕ = named (get_or order i 0 ∷ []) (get_or flags i false ∷ []) in
       let rest : List ℕ = named (drop (i + 1) order) (drop (i + 1) flags) in
-      let l : length (encode_numbers here) ≡ 2 * length here = length-numbers here in
+      let l : length (encode_numbers here) ≡ 2 * length here = length_numbers here in
       let n : 12 + 2 * k + length (encode_numbers here) ≡ 12 + 2 * next = omega arith in
       sym
       (ap (λ (x : List ℕ). sets now (12 + 2 * k) (encode_numbers x)) (named_turn order flags i h e)
-      ∙ ap (λ (x : List ℕ). sets now (12 + 2 * k) x) (numbers-append here rest)
+      ∙ ap (λ (x : List ℕ). sets now (12 + 2 * k) x) (numbers_append here rest)
       ∙ sets-append now (12 + 2 * k) (encode_numbers here) (encode_numbers rest)
       ∙ ap (λ (x : List ℕ). sets x (12 + 2 * k + length (encode_numbers here)) (encode_numbers rest)) (sym w.bytes)
       ∙ ap (λ (x : ℕ). sets after x (encode_numbers rest)) n)

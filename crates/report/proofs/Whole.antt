@@ -9,8 +9,8 @@ use Rattle.preference.specs.Selection.{Selection}
 use Rattle.preference.specs.Named.{named}
 use Rattle.table.specs.Encoding.{encode_numbers}
 use Rattle.report.specs.Written.{head_bytes, NumbersWritten, Written}
-use Rattle.table.proofs.Sizes.{length-numbers}
-use Rattle.report.proofs.Reports.{head-length, report_headed}
+use Rattle.table.proofs.Sizes.{length_numbers}
+use Rattle.report.proofs.Reports.{head_length, report_headed}
 
 -- what is stored from a list's start on stands before what the list has from there on
 from_start : (bytes l : List ℕ) (n : ℕ) → length bytes ≡ n → n ≤ length l → sets l 0 bytes ≡ bytes ++ drop n l
@@ -33,20 +33,20 @@ pub whole :
     Written kind status count order flags before after (12 + 2 * k)
 whole kind status count k order flags before between after room w e =
     let numbers : List ℕ = named order flags in
-    let n : length (encode_numbers numbers) ≡ 2 * length numbers = length-numbers numbers in
+    let n : length (encode_numbers numbers) ≡ 2 * length numbers = length_numbers numbers in
     let counted : k ≡ length numbers = omega (arith, w.counted) in
     let few : k ≤ length order = omega (arith, w.few) in
     let fits : 12 + length (encode_numbers numbers) ≤ length before = omega arith in
     let stored : between ≡ sets before 12 (encode_numbers numbers) = w.bytes in
     let long : length between ≡ length before = ap length stored ∙ length-sets before 12 (encode_numbers numbers) in
-    let long-enough : 12 ≤ length between = omega arith in
+    let long_enough : 12 ≤ length between = omega arith in
     let end : 12 + length (encode_numbers numbers) ≡ 12 + 2 * k = omega arith in
     record {
       ends = omega arith;
       within = omega arith;
       bytes =
           e
-          ∙ from_start (head_bytes kind status count k) between 12 (head-length kind status count k) long-enough
+          ∙ from_start (head_bytes kind status count k) between 12 (head_length kind status count k) long_enough
           ∙ ap (λ (x : List ℕ). head_bytes kind status count k ++ x)
           (ap (λ (x : List ℕ). drop 12 x) stored
           ∙ from_place (encode_numbers numbers) before 12 fits

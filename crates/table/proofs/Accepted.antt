@@ -14,7 +14,7 @@ use Rattle.table.specs.Limits.{most_bytes, most_variables, most_requests, most_r
 use Rattle.table.specs.Tests.{head_first, in_sequence, room_for_row, length_right, in_range, no_repeat, adds_to_zero, next_phase, next_frame}
 use Rattle.table.specs.Reading.{in_phase, step_at, ending_of, scan, beginning, reading, refused_at}
 use Rattle.table.specs.Kept.{first_row, RowKept, RowsKept, Kept}
-use Rattle.table.proofs.Steps.{Passed, next_passed, scan-ends, scan_goes_on, scan_stops, both}
+use Rattle.table.proofs.Steps.{Passed, next_passed, scan_ends, scan_goes_on, scan_stops, both}
 
 -- a refusal is no acceptance
 no_refusal : {X : Type 0} {number place : ℕ} {f : Frame} → refused_at number place ≡ Accepted f → X
@@ -56,7 +56,7 @@ module _ (t : List ℕ) (f : Frame) where
       by : (more : Bool) → ltb at (length t) ≡ more → (at ≡ length t) × (fr ≡ f)
       by true q = clash (goes n t at (in_phase Checked fr) f (ltb-true at (length t) q) g e).passed.is_in_sequence
       by false q =
-          let p = ltb-false at (length t) q in (omega arith, same_frame (sym (scan-ends n t at (in_phase Checked fr) p) ∙ e))
+          let p = ltb-false at (length t) q in (omega arith, same_frame (sym (scan_ends n t at (in_phase Checked fr) p) ∙ e))
 
 -- what stands from ORDER on in a table that is accepted with the frame f
 pub record Ends (t : List ℕ) (f : Frame) : Type 0 where
@@ -95,7 +95,7 @@ module _ (t : List ℕ) (f : Frame) where
       let ends : Ends t fr = record { check = rw (← o) (k, l); adds = rw (← o) (rw k at p.passed.adds); end = rw (← o) end } in
       (subst (λ (x : Frame). Ends t x) q.1 ends, q.1)
 
-  after-order :
+  after_order :
       (n at : ℕ) (fr : Frame) →
       at ≤ length t →
       length t ≤ n + at →
@@ -103,11 +103,11 @@ module _ (t : List ℕ) (f : Frame) where
       scan n t at (in_phase Ordered fr) ≡ Accepted f →
       Ends t f × (fr ≡ f)
   unfolding ending_of
-  after-order n at fr h g o e = by (ltb at (length t)) refl
+  after_order n at fr h g o e = by (ltb at (length t)) refl
     where
       by : (more : Bool) → ltb at (length t) ≡ more → Ends t f × (fr ≡ f)
       by true q = check_passed n at fr g o (goes n t at (in_phase Ordered fr) f (ltb-true at (length t) q) g e)
-      by false q = no_refusal (sym (scan-ends n t at (in_phase Ordered fr) (ltb-false at (length t) q)) ∙ e)
+      by false q = no_refusal (sym (scan_ends n t at (in_phase Ordered fr) (ltb-false at (length t) q)) ∙ e)
 
 -- what stands from a place among the rows on
 pub record Rest (t : List ℕ) (at : ℕ) (fr f : Frame) : Type 0 where
@@ -116,7 +116,7 @@ pub record Rest (t : List ℕ) (at : ℕ) (fr f : Frame) : Type 0 where
   pub more : ℕ
   pub counted : f.rows ≡ fr.rows + more
   pub few : f.rows ≤ most_rows
-  pub rows-kept : RowsKept fr.variables fr.requests t more at f.order
+  pub rows_kept : RowsKept fr.variables fr.requests t more at f.order
   pub order : (kind_at t f.order ≡ Order) × (length_at t f.order ≡ 2 * fr.requests)
   pub order_is_in_range : order_in_range fr.requests (order_at fr.requests t f.order) ≡ true
   pub order_different : all_different (order_at fr.requests t f.order) ≡ true
@@ -169,16 +169,16 @@ module _ (t : List ℕ) (f : Frame) where
       Rest t at fr f
 
   -- a row, and then the rest
-  after-row : (at : ℕ) (fr : Frame) → RowKept fr.variables fr.requests t at → Rest t (after t at) (one_more fr) f → Rest t at fr f
+  after_row : (at : ℕ) (fr : Frame) → RowKept fr.variables fr.requests t at → Rest t (after t at) (one_more fr) f → Rest t at fr f
   unfolding RowsKept
-  after-row at fr kept r =
+  after_row at fr kept r =
       record {
         variables = r.variables;
         requests = r.requests;
         more = suc r.more;
         counted = omega (arith, r.counted);
         few = r.few;
-        rows-kept = (kept, r.rows-kept);
+        rows_kept = (kept, r.rows_kept);
         order = r.order;
         order_is_in_range = r.order_is_in_range;
         order_different = r.order_different;
@@ -204,7 +204,7 @@ module _ (t : List ℕ) (f : Frame) where
         more = 0;
         counted = omega arith;
         few = few;
-        rows-kept = refl;
+        rows_kept = refl;
         order = order;
         order_is_in_range = is_in_range;
         order_different = different;
@@ -221,21 +221,21 @@ module _ (t : List ℕ) (f : Frame) where
 
       told : (p : Goes (suc n) t at (in_phase Rows fr) f) → AmongRows t at fr p.next → Rest t at fr f
       told p (a_row kept room state) =
-          after-row at fr kept
+          after_row at fr kept
           (rest (after t at) (one_more fr) kept.whole (omega arith) (omega arith) (rw (state, same_fuel) at p.rest))
       told p (the_order order is_in_range different state) =
           at_order at fr few order is_in_range different
-          (after-order t f n (after t at) (ordered_at fr at) p.passed.whole (omega arith) refl (rw (state, same_fuel) at p.rest))
+          (after_order t f n (after t at) (ordered_at fr at) p.passed.whole (omega arith) refl (rw (state, same_fuel) at p.rest))
 
       by : (more : Bool) → ltb at (length t) ≡ more → Rest t at fr f
       by true q =
           let p = goes (suc n) t at (in_phase Rows fr) f (ltb-true at (length t) q) g e in
           told p (among (kind_at t at) refl p.passed)
-      by false q = no_refusal (sym (scan-ends (suc n) t at (in_phase Rows fr) (ltb-false at (length t) q)) ∙ e)
+      by false q = no_refusal (sym (scan_ends (suc n) t at (in_phase Rows fr) (ltb-false at (length t) q)) ∙ e)
 
   rest_from : (n : ℕ) → RestFrom n
   unfolding ending_of
-  rest_from zero at fr h g few e = no_refusal (sym (scan-ends zero t at (in_phase Rows fr) (omega arith)) ∙ e)
+  rest_from zero at fr h g few e = no_refusal (sym (scan_ends zero t at (in_phase Rows fr) (omega arith)) ∙ e)
   rest_from (suc n) at fr h g few e = rest_step n (rest_from n) at fr h g few e
 
 -- only HEAD comes first
@@ -264,10 +264,10 @@ module _ (t : List ℕ) (f : Frame) (short : length t ≤ most_bytes) where
         head = head;
         variables = r.variables;
         requests = r.requests;
-        few-variables = omega (arith, r.variables, small.0);
-        few-requests = omega (arith, r.requests, small.1);
-        few-rows = r.few;
-        rows-kept = rw (r.variables, r.requests, omega_rows) r.rows-kept;
+        few_variables = omega (arith, r.variables, small.0);
+        few_requests = omega (arith, r.requests, small.1);
+        few_rows = r.few;
+        rows_kept = rw (r.variables, r.requests, omega_rows) r.rows_kept;
         order = rw r.requests r.order;
         order_is_in_range = rw r.requests r.order_is_in_range;
         order_different = rw r.requests r.order_different;
@@ -311,4 +311,4 @@ accepted_keeps t f e = some_byte (ltb 0 (length t)) refl
     some_byte true q =
         head_passed t f (scan_of_accepted t f e).0
         (goes (length t) t 0 beginning f (ltb-true 0 (length t) q) (omega arith) scanned)
-    some_byte false q = no_refusal (sym (scan-ends (length t) t 0 beginning (ltb-false 0 (length t) q)) ∙ scanned)
+    some_byte false q = no_refusal (sym (scan_ends (length t) t 0 beginning (ltb-false 0 (length t) q)) ∙ scanned)

@@ -49,9 +49,9 @@ none_found t at number h =
     let g = place_grows number t at in rw (le-ltb (place_of_record number t at) (length t) (omega arith))
 
 -- before it the record's body is found
-pub body-found : (t : List ℕ) (at l : ℕ) → at < length t → l ≡ length_at t at → Found (at + 4) l ≡ stretch_at t at
+pub body_found : (t : List ℕ) (at l : ℕ) → at < length t → l ≡ length_at t at → Found (at + 4) l ≡ stretch_at t at
 unfolding stretch_at
-body-found t at l h e = rw (lt-ltb at (length t) h, e)
+body_found t at l h e = rw (lt-ltb at (length t) h, e)
 
 module _ (t : List ℕ) (f : Frame) where
   abbrev WholeAfter : ℕ → Type 0
@@ -74,14 +74,14 @@ module _ (t : List ℕ) (f : Frame) where
       by zero h = p.passed.whole
       by (suc k) h = rest (after t at) p.next (omega arith) (rw same_fuel at p.rest) k h
 
-  whole-after : (n : ℕ) → WholeAfter n
+  whole_after : (n : ℕ) → WholeAfter n
   unfolding WholeFrom
-  whole-after zero at s g e = λ number h. let k = place_grows number t at in absurd (omega arith)
-  whole-after (suc n) at s g e = whole_by_lem n (whole-after n) at s g e
+  whole_after zero at s g e = λ number h. let k = place_grows number t at in absurd (omega arith)
+  whole_after (suc n) at s g e = whole_by_lem n (whole_after n) at s g e
 
 -- every record of an accepted table is whole
-pub accepted-whole : (t : List ℕ) (f : Frame) → reading t ≡ Accepted f → WholeFrom t 0
-accepted-whole t f e = whole-after t f (length t) 0 beginning (omega arith) (scan_of_accepted t f e).1
+pub accepted_whole : (t : List ℕ) (f : Frame) → reading t ≡ Accepted f → WholeFrom t 0
+accepted_whole t f e = whole_after t f (length t) 0 beginning (omega arith) (scan_of_accepted t f e).1
 
 module _ (t : List ℕ) (number : ℕ) where
   -- the stretch in an accepted table is the one that the walk finds
@@ -91,9 +91,9 @@ module _ (t : List ℕ) (number : ℕ) where
   found_in_accepted f r e h = rw e h
 
   -- a refused table has none
-  pub refused-body : (refusal : Refusal) → reading t ≡ Refused refusal → Missing refusal ≡ stretch_of t number
+  pub refused_body : (refusal : Refusal) → reading t ≡ Refused refusal → Missing refusal ≡ stretch_of t number
   unfolding stretch_by
-  refused-body refusal e = rw e
+  refused_body refusal e = rw e
 
   within_by : (at start size : ℕ) → WholeFrom t 0 → at ≡ place_of_record number t 0 → stretch_at t at ≡ Found start size → start + size ≤ length t
   unfolding stretch_at WholeFrom
@@ -115,7 +115,7 @@ module _ (t : List ℕ) (number : ℕ) where
   stretch_within start size q = by (reading t) refl
     where
       by : (told : Reading) → reading t ≡ told → start + size ≤ length t
-      by (Accepted f) e = within_by (place_of_record number t 0) start size (accepted-whole t f e) refl (rw e at q)
+      by (Accepted f) e = within_by (place_of_record number t 0) start size (accepted_whole t f e) refl (rw e at q)
       by (Refused refusal) e = let z : ◌≡◌ {A = ℕ} 0 1 = cc (rw e at q) in absurd (omega arith)
 
   -- its bytes are the body

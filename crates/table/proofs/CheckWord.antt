@@ -5,8 +5,8 @@ use Rattle.table.specs.Rows.{Term, Row, clause, linear}
 use Rattle.table.specs.Model.{Model}
 use Rattle.table.specs.Encoding.{u16, u32, i32, record_of, encode_numbers, encode_terms, encode_row, encode_rows, encode_head}
 use Rattle.table.specs.Encoding.{encode_order, before_check, sum_of_words, check_word, encode_check, sealed, encode}
-use Rattle.table.proofs.Standing.{sum-read}
-use Rattle.table.proofs.Sizes.{rows_even, row_appended, length-numbers, length-terms, length-head, before_check_even}
+use Rattle.table.proofs.Standing.{sum_read}
+use Rattle.table.proofs.Sizes.{rows_even, row_appended, length_numbers, length-terms, length_head, before_check_even}
 
 -- whole words add up one after another
 pub sum-append : (xs ys : List ℕ) → length xs % 2 ≡ 0 → sum_of_words (xs ++ ys) ≡ sum_of_words xs + sum_of_words ys
@@ -25,10 +25,10 @@ pub sum-record : (kind : ℕ) (body : List ℕ) → sum_of_words (record_of kind
 unfolding record_of sum_of_words u16
 sum-record kind body = omega arith
 
-pub sum-numbers : (ns : List ℕ) → sum_of_words (encode_numbers ns) ≡ total ns
+pub sum_numbers : (ns : List ℕ) → sum_of_words (encode_numbers ns) ≡ total ns
 unfolding encode_numbers total sum_of_words
-sum-numbers [] = refl
-sum-numbers (n ∷ ns) = let h = sum-numbers ns in let g = sum-u16 n (encode_numbers ns) in omega arith
+sum_numbers [] = refl
+sum_numbers (n ∷ ns) = let h = sum_numbers ns in let g = sum-u16 n (encode_numbers ns) in omega arith
 
 pub sum_head : (variables requests : ℕ) → sum_of_words (encode_head variables requests) ≡ 5 + variables + requests
 unfolding encode_head record_of sum_of_words u16
@@ -36,7 +36,7 @@ sum_head variables requests = omega arith
 
 pub sum-clause : (role : ℕ) (literals : List ℕ) → sum_of_words (encode_row (clause role literals)) ≡ 4 + 2 * length literals + role + total literals
 unfolding encode_row record_of sum_of_words u16
-sum-clause role literals = let h = sum-numbers literals in let g = length-numbers literals in omega arith
+sum-clause role literals = let h = sum_numbers literals in let g = length_numbers literals in omega arith
 
 pub sum-linear :
     (role : ℕ) (bound : ℤ) (ts : List Term) →
@@ -44,10 +44,10 @@ pub sum-linear :
 unfolding encode_row record_of sum_of_words i32 u32 u16
 sum-linear role bound ts = let h = length-terms ts in omega arith
 
-pub sum-order : (order : List ℕ) → sum_of_words (encode_order order) ≡ 4 + 2 * length order + total order
+pub sum_order : (order : List ℕ) → sum_of_words (encode_order order) ≡ 4 + 2 * length order + total order
 unfolding encode_order
-sum-order order =
-    let h = sum-record 4 (encode_numbers order) in let g = sum-numbers order in let k = length-numbers order in omega arith
+sum_order order =
+    let h = sum-record 4 (encode_numbers order) in let g = sum_numbers order in let k = length_numbers order in omega arith
 
 -- one row more adds its own words
 pub sum_row_appended : (rs : List Row) (r : Row) → sum_of_words (encode_rows (rs ++ (r ∷ []))) ≡ sum_of_words (encode_rows rs) + sum_of_words (encode_row r)
@@ -61,7 +61,7 @@ pub sum_before_check :
 unfolding before_check
 sum_before_check m =
     let head = encode_head m.variables m.requests in
-    let g = length-head m.variables m.requests in
+    let g = length_head m.variables m.requests in
     let r = rows_even m.rows in
     let h = sum-append head (encode_rows m.rows) (omega arith) in
     let k = sum-append (head ++ encode_rows m.rows) (encode_order m.order) (simp length-append (omega arith)) in
@@ -70,22 +70,22 @@ sum_before_check m =
 -- the first k words of a table add up to the sum of its first 2k bytes
 pub sum_of_first_words : (k : ℕ) (t : List ℕ) → 2 * k ≤ length t → total (words k t 0) ≡ sum_of_words (take (2 * k) t)
 sum_of_first_words k t h =
-    sum-read k t 0 (take (2 * k) t) (drop (2 * k) t) (length-take-le (2 * k) t h) (sym (take-append-drop (2 * k) t))
+    sum_read k t 0 (take (2 * k) t) (drop (2 * k) t) (length-take-le (2 * k) t h) (sym (take-append-drop (2 * k) t))
 
 -- all words of a table add up to the sum of its bytes
 pub sum_of_all_words : (t : List ℕ) → length t % 2 ≡ 0 → total (words (length t / 2) t 0) ≡ sum_of_words t
-sum_of_all_words t even = sum-read (length t / 2) t 0 t [] (omega arith) (sym (append-nil t))
+sum_of_all_words t even = sum_read (length t / 2) t 0 t [] (omega arith) (sym (append-nil t))
 
 module _ (sum : ℕ) where
   -- the CHECK word makes the sum zero
-  pub check-adds : (sum + check_word sum) % 65536 ≡ 0
+  pub check_adds : (sum + check_word sum) % 65536 ≡ 0
   unfolding check_word
-  check-adds = omega arith
+  check_adds = omega arith
 
   -- it is a u16
-  pub check-small : check_word sum < 65536
+  pub check_small : check_word sum < 65536
   unfolding check_word
-  check-small = omega arith
+  check_small = omega arith
 
   -- no other u16 does
   pub check_only : (word : ℕ) → word < 65536 → (sum + word) % 65536 ≡ 0 → word ≡ check_word sum
@@ -104,16 +104,16 @@ unfolding record_of sum_of_words u16
 sum_with_check records word even = let h = sum-append records (record_of 5 (u16 word)) even in omega arith
 
 -- so the words of a sealed run of records add to zero
-pub sealed-adds : (records : List ℕ) → length records % 2 ≡ 0 → sum_of_words (sealed records) % 65536 ≡ 0
+pub sealed_adds : (records : List ℕ) → length records % 2 ≡ 0 → sum_of_words (sealed records) % 65536 ≡ 0
 unfolding sealed encode_check
-sealed-adds records even =
+sealed_adds records even =
     let h = sum_with_check records (check_word (sum_of_words records + 2 + 5)) even in
-    let g = check-adds (sum_of_words records + 2 + 5) in
+    let g = check_adds (sum_of_words records + 2 + 5) in
     omega arith
 
-pub encode-adds : (m : Model) → sum_of_words (encode m) % 65536 ≡ 0
+pub encode_adds : (m : Model) → sum_of_words (encode m) % 65536 ≡ 0
 unfolding encode
-encode-adds m = sealed-adds (before_check m) (before_check_even m)
+encode_adds m = sealed_adds (before_check m) (before_check_even m)
 
 -- a writer's way to the CHECK word: the sum of the words of the k words written so far, carries thrown away, is all that it needs
 pub check_by_sum :
@@ -123,4 +123,4 @@ pub check_by_sum :
     sum ≡ total (words k t 0) % 2 ^ 16 →
     check_word (sum + 2 + 5) ≡ check_word (sum_of_words records + 2 + 5)
 unfolding check_word
-check_by_sum records t rest k sum size e f = let h = sum-read k t 0 records rest size e in omega arith
+check_by_sum records t rest k sum size e f = let h = sum_read k t 0 records rest size e in omega arith

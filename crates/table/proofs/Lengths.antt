@@ -10,37 +10,37 @@ use Rattle.table.specs.Limits.{within, term_in_range, row_in_range}
 use Rattle.table.specs.Tests.{length_right}
 
 module _ (n l : ℕ) where
-  pub clause-short : l < 2 → length_right Clause n l ≡ false
+  pub clause_short : l < 2 → length_right Clause n l ≡ false
   unfolding length_right
-  clause-short h = rw (lt-leb 2 l h)
+  clause_short h = rw (lt-leb 2 l h)
 
-  pub clause-long : 130 < l → length_right Clause n l ≡ false
+  pub clause_long : 130 < l → length_right Clause n l ≡ false
   unfolding length_right
-  clause-long h = rw (lt-leb l 130 h, and-false (leb 2 l))
+  clause_long h = rw (lt-leb l 130 h, and-false (leb 2 l))
 
   pub clause_odd : (l % 2 ≡ 0 → ⊥) → length_right Clause n l ≡ false
   unfolding length_right
   clause_odd h = rw (ne_eqb (l % 2) 0 h) (and-false (leb 2 l && leb l 130))
 
-  pub clause-right : 2 ≤ l → l ≤ 130 → l % 2 ≡ 0 → length_right Clause n l ≡ true
+  pub clause_right : 2 ≤ l → l ≤ 130 → l % 2 ≡ 0 → length_right Clause n l ≡ true
   unfolding length_right
-  clause-right h g e = rw (le-leb 2 l h, le-leb l 130 g, eq-eqb (l % 2) 0 e)
+  clause_right h g e = rw (le-leb 2 l h, le-leb l 130 g, eq-eqb (l % 2) 0 e)
 
-  pub linear-short : l < 6 → length_right Linear n l ≡ false
+  pub linear_short : l < 6 → length_right Linear n l ≡ false
   unfolding length_right
-  linear-short h = rw (lt-leb 6 l h)
+  linear_short h = rw (lt-leb 6 l h)
 
-  pub linear-long : 126 < l → length_right Linear n l ≡ false
+  pub linear_long : 126 < l → length_right Linear n l ≡ false
   unfolding length_right
-  linear-long h = rw (lt-leb l 126 h, and-false (leb 6 l))
+  linear_long h = rw (lt-leb l 126 h, and-false (leb 6 l))
 
   pub linear_uneven : (l % 6 ≡ 0 → ⊥) → length_right Linear n l ≡ false
   unfolding length_right
   linear_uneven h = rw (ne_eqb (l % 6) 0 h) (and-false (leb 6 l && leb l 126))
 
-  pub linear-right : 6 ≤ l → l ≤ 126 → l % 6 ≡ 0 → length_right Linear n l ≡ true
+  pub linear_right : 6 ≤ l → l ≤ 126 → l % 6 ≡ 0 → length_right Linear n l ≡ true
   unfolding length_right
-  linear-right h g e = rw (le-leb 6 l h, le-leb l 126 g, eq-eqb (l % 6) 0 e)
+  linear_right h g e = rw (le-leb 6 l h, le-leb l 126 g, eq-eqb (l % 6) 0 e)
 
 module _ (t : List ℕ) (at variables requests role l : ℕ) (e : role ≡ u16_at t (at + 4)) where
   pub clause_role_out : requests < role → false ≡ row_in_range variables requests (clause_at t at)

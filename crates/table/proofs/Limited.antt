@@ -53,20 +53,20 @@ literals_passed v literals e =
 -- terms
 term_passes : (v : ℕ) (term : Term) → TermWithin v term → term_in_range v term ≡ true
 unfolding term_in_range
-term_passes v term h = rw (lt-ltb term.variable v h.variable-within, le-leb (nat_abs term.weight) 1000000 h.weight-within)
+term_passes v term h = rw (lt-ltb term.variable v h.variable_within, le-leb (nat_abs term.weight) 1000000 h.weight_within)
 
 term_passed : (v : ℕ) (term : Term) → term_in_range v term ≡ true → TermWithin v term
 unfolding term_in_range
 term_passed v term e =
     let h = both (ltb term.variable v) (leb (nat_abs term.weight) 1000000) e in
-    record { variable-within = ltb-true term.variable v h.0; weight-within = leb-true (nat_abs term.weight) 1000000 h.1 }
+    record { variable_within = ltb-true term.variable v h.0; weight_within = leb-true (nat_abs term.weight) 1000000 h.1 }
 
 -- rows
-pub row-passes : (v n : ℕ) (r : Row) → RowWithin v n r → row_in_range v n r ≡ true
+pub row_passes : (v n : ℕ) (r : Row) → RowWithin v n r → row_in_range v n r ≡ true
 unfolding RowWithin row_in_range
-row-passes v n (clause role literals) h = rw (le-leb role n h.role_within, literals_pass v literals h.literals_within)
-row-passes v n (linear role bound ts) h =
-    rw (le-leb role n h.role_within, every_by (term_in_range v) (TermWithin v) (term_passes v) ts h.terms-within)
+row_passes v n (clause role literals) h = rw (le-leb role n h.role_within, literals_pass v literals h.literals_within)
+row_passes v n (linear role bound ts) h =
+    rw (le-leb role n h.role_within, every_by (term_in_range v) (TermWithin v) (term_passes v) ts h.terms_within)
 
 pub clause_passed : (v n role : ℕ) (literals : List ℕ) → length literals ≤ 64 → row_in_range v n (clause role literals) ≡ true → ClauseWithin v n role literals
 unfolding row_in_range
@@ -86,13 +86,13 @@ linear_passed v n role bound ts fits few e =
     record {
       role_within = leb-true role n h.0;
       bound_within = fits;
-      few-terms = few;
-      terms-within = each_by (term_in_range v) (TermWithin v) (term_passed v) ts h.1;
+      few_terms = few;
+      terms_within = each_by (term_in_range v) (TermWithin v) (term_passed v) ts h.1;
     }
 
 -- the order's numbers
-pub order-passes : (n : ℕ) (order : List ℕ) → Each (IsRequest n) order → order_in_range n order ≡ true
-order-passes n order each =
+pub order_passes : (n : ℕ) (order : List ℕ) → Each (IsRequest n) order → order_in_range n order ≡ true
+order_passes n order each =
     every_by (within 1 (n + 1)) (IsRequest n) (λ request h. within_by 1 (n + 1) request (omega arith) (omega arith)) order each
 
 pub order_passed : (n : ℕ) (order : List ℕ) → order_in_range n order ≡ true → Each (IsRequest n) order

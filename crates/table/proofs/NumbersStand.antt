@@ -27,14 +27,14 @@ fits_i32 (negsuc n) h = h.sfits
 
 module _ (t : List ℕ) (bytes : IsBytes t) where
   -- a word of bytes is a u16
-  pub u16-small : (at : ℕ) → u16_at t at < 65536
+  pub u16_small : (at : ℕ) → u16_at t at < 65536
   unfolding u16_at
-  u16-small at = omega (arith, byte_at t bytes at, byte_at t bytes (at + 1))
+  u16_small at = omega (arith, byte_at t bytes at, byte_at t bytes (at + 1))
 
   -- two bytes are the encoding of their word
-  pub u16-stands : (at next : ℕ) → next ≡ at + 2 → next ≤ length t → drop at t ≡ u16 (u16_at t at) ++ drop next t
+  pub u16_stands : (at next : ℕ) → next ≡ at + 2 → next ≤ length t → drop at t ≡ u16 (u16_at t at) ++ drop next t
   unfolding u16 u16_at
-  u16-stands at next e h =
+  u16_stands at next e h =
       let low = byte_at t bytes at in
       let high = byte_at t bytes (at + 1) in
       let second : suc at ≡ at + 1 = omega arith in
@@ -44,42 +44,42 @@ module _ (t : List ℕ) (bytes : IsBytes t) where
       rw (low_is, high_is, drop-cons t at 0 (omega arith), second, drop-cons t (at + 1) 0 (omega arith), third)
 
   -- four bytes are the encoding of their u32
-  u32-stands : (at next : ℕ) → next ≡ at + 4 → next ≤ length t → drop at t ≡ u32 (u32_at t at) ++ drop next t
+  u32_stands : (at next : ℕ) → next ≡ at + 4 → next ≤ length t → drop at t ≡ u32 (u32_at t at) ++ drop next t
   unfolding u32 u32_at u16
-  u32-stands at next e h =
-      let low = u16-small at in
+  u32_stands at next e h =
+      let low = u16_small at in
       let low_is : (u16_at t at + 65536 * u16_at t (at + 2)) % 65536 ≡ u16_at t at = omega arith in
       let high_is : (u16_at t at + 65536 * u16_at t (at + 2)) / 65536 ≡ u16_at t (at + 2) = omega arith in
-      rw (low_is, high_is) (u16-stands at (at + 2) refl (omega arith) ∙ ap (λ (l : List ℕ). u16 (u16_at t at) ++ l) (u16-stands (at + 2) next (omega arith) h))
+      rw (low_is, high_is) (u16_stands at (at + 2) refl (omega arith) ∙ ap (λ (l : List ℕ). u16 (u16_at t at) ++ l) (u16_stands (at + 2) next (omega arith) h))
 
   u32_fits : (at : ℕ) → Fits w32 (u32_at t at)
   unfolding u32_at
-  u32_fits at = record { fits = omega (arith, u16-small at, u16-small (at + 2)) }
+  u32_fits at = record { fits = omega (arith, u16_small at, u16_small (at + 2)) }
 
   -- and of their i32
-  pub i32-stands : (at next : ℕ) → next ≡ at + 4 → next ≤ length t → drop at t ≡ i32 (i32_at t at) ++ drop next t
+  pub i32_stands : (at next : ℕ) → next ≡ at + 4 → next ≤ length t → drop at t ≡ i32 (i32_at t at) ++ drop next t
   unfolding i32 i32_at
-  i32-stands at next e h = rw (of_z-to_z (u32_fits at)) (u32-stands at next e h)
+  i32_stands at next e h = rw (of_z-to_z (u32_fits at)) (u32_stands at next e h)
 
-  pub i32-is : (at : ℕ) → IsI32 (i32_at t at)
+  pub i32_is : (at : ℕ) → IsI32 (i32_at t at)
   unfolding i32_at
-  i32-is at = fits_i32 (to_z w32 (u32_at t at)) (sfits_to_z (u32_fits at))
+  i32_is at = fits_i32 (to_z w32 (u32_at t at)) (sfits_to_z (u32_fits at))
 
   -- numbers, one after another
-  pub numbers-stand :
+  pub numbers_stand :
       (k at next : ℕ) → next ≡ at + 2 * k → next ≤ length t → drop at t ≡ encode_numbers (words k t at) ++ drop next t
   unfolding words encode_numbers u16
-  numbers-stand zero at next e h = let same : next ≡ at = omega arith in rw same
-  numbers-stand (suc k) at next e h =
-      u16-stands at (at + 2) refl (omega arith)
-      ∙ ap (λ (l : List ℕ). u16 (u16_at t at) ++ l) (numbers-stand k (at + 2) next (omega arith) h)
+  numbers_stand zero at next e h = let same : next ≡ at = omega arith in rw same
+  numbers_stand (suc k) at next e h =
+      u16_stands at (at + 2) refl (omega arith)
+      ∙ ap (λ (l : List ℕ). u16 (u16_at t at) ++ l) (numbers_stand k (at + 2) next (omega arith) h)
 
   -- terms, one after another
-  pub terms-stand : (k at next : ℕ) → next ≡ at + 6 * k → next ≤ length t → drop at t ≡ encode_terms (terms k t at) ++ drop next t
+  pub terms_stand : (k at next : ℕ) → next ≡ at + 6 * k → next ≤ length t → drop at t ≡ encode_terms (terms k t at) ++ drop next t
   unfolding terms term_at encode_terms encode_term i32 u32 u16
-  terms-stand zero at next e h = let same : next ≡ at = omega arith in rw same
-  terms-stand (suc k) at next e h =
-      u16-stands at (at + 2) refl (omega arith)
+  terms_stand zero at next e h = let same : next ≡ at = omega arith in rw same
+  terms_stand (suc k) at next e h =
+      u16_stands at (at + 2) refl (omega arith)
       ∙ ap (λ (l : List ℕ). u16 (u16_at t at) ++ l)
-      (i32-stands (at + 2) (at + 6) (omega arith) (omega arith)
-      ∙ ap (λ (l : List ℕ). i32 (i32_at t (at + 2)) ++ l) (terms-stand k (at + 6) next (omega arith) h))
+      (i32_stands (at + 2) (at + 6) (omega arith) (omega arith)
+      ∙ ap (λ (l : List ℕ). i32 (i32_at t (at + 2)) ++ l) (terms_stand k (at + 6) next (omega arith) h))

@@ -11,75 +11,75 @@ use Rattle.table.specs.Encoding.{IsBytes, encode, frame_of, model_of, StandsFor}
 use Rattle.table.proofs.Accepted.{accepted_keeps, same_frame}
 use Rattle.table.proofs.Scanned.{keeps_accepted}
 use Rattle.table.proofs.Written.{encode_keeps, encode-says}
-use Rattle.table.proofs.Decoded.{kept_encodes, kept-within}
+use Rattle.table.proofs.Decoded.{kept_encodes, kept_within}
 
 -- a model within the limits, whose encoding is no longer than a table may be, encodes to an accepted table
-pub encode-accepted : (m : Model) → WithinLimits m → length (encode m) ≤ 32768 → reading (encode m) ≡ Accepted (frame_of m)
-encode-accepted m within short = keeps_accepted (encode m) (frame_of m) (encode_keeps m within short)
+pub encode_accepted : (m : Model) → WithinLimits m → length (encode m) ≤ 32768 → reading (encode m) ≡ Accepted (frame_of m)
+encode_accepted m within short = keeps_accepted (encode m) (frame_of m) (encode_keeps m within short)
 
 module _ (m : Model) (within : WithinLimits m) (short : length (encode m) ≤ 32768) (f : Frame) (e : reading (encode m) ≡ Accepted f) where
   -- with whatever frame it is accepted, that frame is the model's
   pub encode_frame : f ≡ frame_of m
-  encode_frame = same_frame (sym e ∙ encode-accepted m within short)
+  encode_frame = same_frame (sym e ∙ encode_accepted m within short)
 
   says : model_of (encode m) f ≡ m
   says = rw encode_frame (encode-says m within)
 
   -- and its variables, requests, decoded rows and order are the model's
-  pub encode-variables : f.variables ≡ m.variables
+  pub encode_variables : f.variables ≡ m.variables
   unfolding model_of
-  encode-variables = ap (λ (x : Model). x.variables) says
+  encode_variables = ap (λ (x : Model). x.variables) says
 
-  pub encode-requests : f.requests ≡ m.requests
+  pub encode_requests : f.requests ≡ m.requests
   unfolding model_of
-  encode-requests = ap (λ (x : Model). x.requests) says
+  encode_requests = ap (λ (x : Model). x.requests) says
 
-  pub encode-rows : rows_of (encode m) f ≡ m.rows
+  pub encode_rows_lem : rows_of (encode m) f ≡ m.rows
   unfolding model_of
-  encode-rows = ap (λ (x : Model). x.rows) says
+  encode_rows_lem = ap (λ (x : Model). x.rows) says
 
-  pub encode-order : order_of (encode m) f ≡ m.order
+  pub encode_order_lem : order_of (encode m) f ≡ m.order
   unfolding model_of
-  encode-order = ap (λ (x : Model). x.order) says
+  encode_order_lem = ap (λ (x : Model). x.order) says
 
 -- a table that stands for a model is accepted, and says it
 module _ (t : List ℕ) (m : Model) (stands : StandsFor t m) where
-  pub stands-accepted : reading t ≡ Accepted (frame_of m)
-  stands-accepted = rw (← stands.encoded) (encode-accepted m stands.within (rw stands.encoded stands.short))
+  pub stands_accepted : reading t ≡ Accepted (frame_of m)
+  stands_accepted = rw (← stands.encoded) (encode_accepted m stands.within (rw stands.encoded stands.short))
 
-  pub stands-says : model_of t (frame_of m) ≡ m
-  stands-says = rw (← stands.encoded) (encode-says m stands.within)
+  pub stands_says : model_of t (frame_of m) ≡ m
+  stands_says = rw (← stands.encoded) (encode-says m stands.within)
 
 module _ (t : List ℕ) (f : Frame) (accepted : reading t ≡ Accepted f) where
   -- whatever model an accepted table stands for is the one decoded from it
   pub only_model : (m : Model) → StandsFor t m → m ≡ model_of t f
-  only_model m stands = sym (rw (same_frame (sym (stands-accepted t m stands) ∙ accepted)) at (stands-says t m stands))
+  only_model m stands = sym (rw (same_frame (sym (stands_accepted t m stands) ∙ accepted)) at (stands_says t m stands))
 
   module _ (bytes : IsBytes t) where
     -- an accepted table stands for what is decoded from it
-    pub accepted-stands : StandsFor t (model_of t f)
-    accepted-stands =
+    pub accepted_stands : StandsFor t (model_of t f)
+    accepted_stands =
         let kept = accepted_keeps t f accepted in
-        record { within = kept-within t f bytes kept; encoded = kept_encodes t f bytes kept; short = kept.short }
+        record { within = kept_within t f bytes kept; encoded = kept_encodes t f bytes kept; short = kept.short }
 
     -- and its frame is that model's
     pub accepted_frame : f ≡ frame_of (model_of t f)
-    accepted_frame = same_frame (sym accepted ∙ stands-accepted t (model_of t f) accepted-stands)
+    accepted_frame = same_frame (sym accepted ∙ stands_accepted t (model_of t f) accepted_stands)
 
     -- so it stands for exactly one model
     pub exactly_one_model : (m : Model) × StandsFor t m × ((other : Model) → StandsFor t other → other ≡ m)
-    exactly_one_model = (model_of t f, accepted-stands, only_model)
+    exactly_one_model = (model_of t f, accepted_stands, only_model)
 
 -- a refused table stands for no model
 pub refused_stands_for_none : (t : List ℕ) (r : Refusal) (m : Model) → reading t ≡ Refused r → StandsFor t m → ⊥
 refused_stands_for_none t r m refused stands =
-    let accepted = stands-accepted t m stands in
+    let accepted = stands_accepted t m stands in
     let z : ◌≡◌ {A = ℕ} 0 1 = cc in
     omega arith
 
 -- no table means two models
 pub one_model : (t : List ℕ) (a b : Model) → StandsFor t a → StandsFor t b → a ≡ b
-one_model t a b stands also = only_model t (frame_of b) (stands-accepted t b also) a stands ∙ stands-says t b also
+one_model t a b stands also = only_model t (frame_of b) (stands_accepted t b also) a stands ∙ stands_says t b also
 
 -- no two accepted tables mean the same model
 pub one_table :
@@ -91,7 +91,7 @@ pub one_table :
     model_of t f ≡ model_of u g →
     t ≡ u
 one_table t u f g t-bytes u-bytes t-accepted u-accepted same =
-    sym (accepted-stands t f t-accepted t-bytes).encoded ∙ ap encode same ∙ (accepted-stands u g u-accepted u-bytes).encoded
+    sym (accepted_stands t f t-accepted t-bytes).encoded ∙ ap encode same ∙ (accepted_stands u g u-accepted u-bytes).encoded
 
 -- no two models have the same table
 pub encode_once : (a b : Model) → WithinLimits a → WithinLimits b → length (encode a) ≤ 32768 → encode a ≡ encode b → a ≡ b
@@ -102,4 +102,4 @@ encode_once a b a-within b-within short same =
 -- accepted tables and models are the same thing
 pub accepted_is_model : (t : List ℕ) → IsBytes t → ((f : Frame) × (reading t ≡ Accepted f)) ↔ ((m : Model) × StandsFor t m)
 accepted_is_model t bytes =
-    (λ p. (model_of t p.0, accepted-stands t p.0 p.1 bytes), λ p. (frame_of p.0, stands-accepted t p.0 p.1))
+    (λ p. (model_of t p.0, accepted_stands t p.0 p.1 bytes), λ p. (frame_of p.0, stands_accepted t p.0 p.1))

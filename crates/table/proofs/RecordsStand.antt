@@ -12,8 +12,8 @@ use Rattle.table.proofs.KindNumbers.{above_five}
 use Rattle.table.proofs.Steps.{both}
 use Rattle.table.proofs.Accepted.{clash}
 use Rattle.table.proofs.Limited.{clause_passed, linear_passed}
-use Rattle.table.proofs.Sizes.{length-numbers, length-terms}
-use Rattle.table.proofs.NumbersStand.{u16-stands, i32-stands, i32-is, numbers-stand, terms-stand}
+use Rattle.table.proofs.Sizes.{length_numbers, length-terms}
+use Rattle.table.proofs.NumbersStand.{u16_stands, i32_stands, i32_is, numbers_stand, terms_stand}
 
 -- the number of a kind
 abbrev pub number_of_kind : Kind → ℕ
@@ -52,7 +52,7 @@ length_of_terms (suc k) t at = ap suc (length_of_terms k t (at + 6))
 
 module _ (t : List ℕ) (bytes : IsBytes t) where
   -- a record is the encoding of its kind and body
-  pub record-stands :
+  pub record_stands :
       (at kind next : ℕ) (body : List ℕ) →
       u16_at t (at + 2) ≡ kind →
       length_at t at ≡ length body →
@@ -61,17 +61,17 @@ module _ (t : List ℕ) (bytes : IsBytes t) where
       drop (at + 4) t ≡ body ++ drop next t →
       drop at t ≡ record_of kind body ++ drop next t
   unfolding record_of u16
-  record-stands at kind next body k l e h stands =
-      u16-stands t bytes at (at + 2) refl (omega arith)
+  record_stands at kind next body k l e h stands =
+      u16_stands t bytes at (at + 2) refl (omega arith)
       ∙ rw l
       (ap (λ (xs : List ℕ). u16 (length body) ++ xs)
-      (u16-stands t bytes (at + 2) (at + 4) (omega arith) (omega arith) ∙ rw (k, stands)))
+      (u16_stands t bytes (at + 2) (at + 4) (omega arith) (omega arith) ∙ rw (k, stands)))
 
   -- what is known of a row of the table
   abbrev RowStands : ℕ → ℕ → ℕ → Row → Type 0
   RowStands v n at r = (drop at t ≡ encode_row r ++ drop (after t at) t) × RowWithin v n r
 
-  clause-stands :
+  clause_stands :
       (v n at : ℕ) →
       u16_at t (at + 2) ≡ 2 →
       length_right Clause n (length_at t at) ≡ true →
@@ -79,7 +79,7 @@ module _ (t : List ℕ) (bytes : IsBytes t) where
       row_in_range v n (clause_at t at) ≡ true →
       RowStands v n at (clause_at t at)
   unfolding length_right clause_at encode_row RowWithin u16
-  clause-stands v n at k right whole is_in_range =
+  clause_stands v n at k right whole is_in_range =
       let l = length_at t at in
       let low-high = both (leb 2 l && leb l 130) (eqb (l % 2) 0) right in
       let bounds = both (leb 2 l) (leb l 130) low-high.0 in
@@ -89,15 +89,15 @@ module _ (t : List ℕ) (bytes : IsBytes t) where
       let count = (l - 2) / 2 in
       let literals = words count t (at + 6) in
       let read = length-words count t (at + 6) in
-      let size = length-numbers literals in
-      let standing = numbers-stand t bytes count (at + 6) (after t at) (omega arith) whole in
-      let role = u16-stands t bytes (at + 4) (at + 6) (omega arith) (omega arith) in (
-        record-stands at 2 (after t at) (u16 (u16_at t (at + 4)) ++ encode_numbers literals) k (omega arith) (omega arith) whole
+      let size = length_numbers literals in
+      let standing = numbers_stand t bytes count (at + 6) (after t at) (omega arith) whole in
+      let role = u16_stands t bytes (at + 4) (at + 6) (omega arith) (omega arith) in (
+        record_stands at 2 (after t at) (u16 (u16_at t (at + 4)) ++ encode_numbers literals) k (omega arith) (omega arith) whole
             (role ∙ ap (λ (xs : List ℕ). u16 (u16_at t (at + 4)) ++ xs) standing),
         clause_passed v n (u16_at t (at + 4)) literals (omega arith) is_in_range,
       )
 
-  linear-stands :
+  linear_stands :
       (v n at : ℕ) →
       u16_at t (at + 2) ≡ 3 →
       length_right Linear n (length_at t at) ≡ true →
@@ -105,7 +105,7 @@ module _ (t : List ℕ) (bytes : IsBytes t) where
       row_in_range v n (linear_at t at) ≡ true →
       RowStands v n at (linear_at t at)
   unfolding length_right linear_at encode_row RowWithin i32 u32 u16
-  linear-stands v n at k right whole is_in_range =
+  linear_stands v n at k right whole is_in_range =
       let l = length_at t at in
       let low-high = both (leb 6 l && leb l 126) (eqb (l % 6) 0) right in
       let bounds = both (leb 6 l) (leb l 126) low-high.0 in
@@ -113,17 +113,17 @@ module _ (t : List ℕ) (bytes : IsBytes t) where
       let high = leb-true l 126 bounds.1 in
       let sixths = eqb-true (l % 6) 0 low-high.1 in
       let count = (l - 6) / 6 in
-      let row-terms = terms count t (at + 10) in
+      let row_terms = terms count t (at + 10) in
       let read = length_of_terms count t (at + 10) in
-      let size = length-terms row-terms in
-      let standing = terms-stand t bytes count (at + 10) (after t at) (omega arith) whole in
-      let bound = i32-stands t bytes (at + 6) (at + 10) (omega arith) (omega arith) in
-      let role = u16-stands t bytes (at + 4) (at + 6) (omega arith) (omega arith) in (
-        record-stands at 3 (after t at) (u16 (u16_at t (at + 4)) ++ i32 (i32_at t (at + 6)) ++ encode_terms row-terms) k (omega arith) (omega arith) whole
+      let size = length-terms row_terms in
+      let standing = terms_stand t bytes count (at + 10) (after t at) (omega arith) whole in
+      let bound = i32_stands t bytes (at + 6) (at + 10) (omega arith) (omega arith) in
+      let role = u16_stands t bytes (at + 4) (at + 6) (omega arith) (omega arith) in (
+        record_stands at 3 (after t at) (u16 (u16_at t (at + 4)) ++ i32 (i32_at t (at + 6)) ++ encode_terms row_terms) k (omega arith) (omega arith) whole
             (role
             ∙ ap (λ (xs : List ℕ). u16 (u16_at t (at + 4)) ++ xs)
             (bound ∙ ap (λ (xs : List ℕ). i32 (i32_at t (at + 6)) ++ xs) standing)),
-        linear_passed v n (u16_at t (at + 4)) (i32_at t (at + 6)) row-terms (i32-is t bytes (at + 6)) (omega arith) is_in_range,
+        linear_passed v n (u16_at t (at + 4)) (i32_at t (at + 6)) row_terms (i32_is t bytes (at + 6)) (omega arith) is_in_range,
       )
 
   row_stands_by : (v n at : ℕ) (kind : Kind) → kind_at t at ≡ kind → RowKept v n t at → RowStands v n at (row_at t at)
@@ -131,28 +131,28 @@ module _ (t : List ℕ) (bytes : IsBytes t) where
   row_stands_by v n at Head k kept = clash (rw k at kept.row)
   row_stands_by v n at Clause k kept =
       rw k
-      (clause-stands v n at (kind_number (u16_at t (at + 2)) Clause refl k) (rw k at kept.right) kept.whole (rw k at kept.is_in_range))
+      (clause_stands v n at (kind_number (u16_at t (at + 2)) Clause refl k) (rw k at kept.right) kept.whole (rw k at kept.is_in_range))
   row_stands_by v n at Linear k kept =
       rw k
-      (linear-stands v n at (kind_number (u16_at t (at + 2)) Linear refl k) (rw k at kept.right) kept.whole (rw k at kept.is_in_range))
+      (linear_stands v n at (kind_number (u16_at t (at + 2)) Linear refl k) (rw k at kept.right) kept.whole (rw k at kept.is_in_range))
   row_stands_by v n at Order k kept = clash (rw k at kept.row)
   row_stands_by v n at Check k kept = clash (rw k at kept.row)
   row_stands_by v n at Unknown k kept = clash (rw k at kept.row)
 
   -- a row is the encoding of the row decoded from it, and that one is within the limits
-  pub row-stands : (v n at : ℕ) → RowKept v n t at → RowStands v n at (row_at t at)
-  row-stands v n at kept = row_stands_by v n at (kind_at t at) refl kept
+  pub row_stands : (v n at : ℕ) → RowKept v n t at → RowStands v n at (row_at t at)
+  row_stands v n at kept = row_stands_by v n at (kind_at t at) refl kept
 
   -- so are rows one after another
-  pub rows-stand :
+  pub rows_stand :
       (v n m at end : ℕ) →
       RowsKept v n t m at end →
       (drop at t ≡ encode_rows (rows m t at) ++ drop end t) × Each (RowWithin v n) (rows m t at) × (length (rows m t at) ≡ m)
   unfolding RowsKept rows encode_rows Each
-  rows-stand v n zero at end kept = (ap (λ (i : ℕ). drop i t) kept, tt, refl)
-  rows-stand v n (suc m) at end kept =
-      let first = row-stands v n at kept.0 in
-      let later = rows-stand v n m (after t at) end kept.1 in (
+  rows_stand v n zero at end kept = (ap (λ (i : ℕ). drop i t) kept, tt, refl)
+  rows_stand v n (suc m) at end kept =
+      let first = row_stands v n at kept.0 in
+      let later = rows_stand v n m (after t at) end kept.1 in (
         first.0
             ∙ ap (λ (xs : List ℕ). encode_row (row_at t at) ++ xs) later.0
             ∙ sym (append_assoc (encode_row (row_at t at)) (encode_rows (rows m t (after t at))) (drop end t)),

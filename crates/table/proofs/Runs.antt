@@ -21,39 +21,39 @@ terms_turn (suc k) t i h = let e : k ≡ suc k - 1 = omega arith in ap (λ (n : 
 
 module _ {A : Type 0} (test : A → Bool) where
   -- one element that fails decides
-  pub every-fails : (x : A) (xs : List A) → test x ≡ false → every test (x ∷ xs) ≡ false
+  pub every_fails : (x : A) (xs : List A) → test x ≡ false → every test (x ∷ xs) ≡ false
   unfolding every
-  every-fails x xs e = rw e
+  every_fails x xs e = rw e
 
   -- one that passes leaves the rest to decide
-  pub every-passes : (x : A) (xs : List A) → test x ≡ true → every test (x ∷ xs) ≡ every test xs
+  pub every_passes : (x : A) (xs : List A) → test x ≡ true → every test (x ∷ xs) ≡ every test xs
   unfolding every
-  every-passes x xs e = rw e
+  every_passes x xs e = rw e
 
 module _ (t : List ℕ) (at left low high : ℕ) (more : 0 < left) where
   -- the word at hand lies below the range
   pub word_below : u16_at t at < low → every (within low high) (words left t at) ≡ false
   unfolding within
-  word_below h = rw (words_turn left t at more) (every-fails (within low high) _ _ (rw (lt-leb low (u16_at t at) h)))
+  word_below h = rw (words_turn left t at more) (every_fails (within low high) _ _ (rw (lt-leb low (u16_at t at) h)))
 
   -- it lies above the range
   pub word_above : high ≤ u16_at t at → every (within low high) (words left t at) ≡ false
   unfolding within
-  word_above h = rw (words_turn left t at more) (every-fails (within low high) _ _ (rw (le-ltb (u16_at t at) high h) (and-false (leb low (u16_at t at)))))
+  word_above h = rw (words_turn left t at more) (every_fails (within low high) _ _ (rw (le-ltb (u16_at t at) high h) (and-false (leb low (u16_at t at)))))
 
   -- it lies within
   pub word_within :
       low ≤ u16_at t at → u16_at t at < high → every (within low high) (words left t at) ≡ every (within low high) (words (left - 1) t (at + 2))
   unfolding within
   word_within h g =
-      rw (words_turn left t at more) (every-passes (within low high) _ _ (rw (le-leb low (u16_at t at) h, lt-ltb (u16_at t at) high g)))
+      rw (words_turn left t at more) (every_passes (within low high) _ _ (rw (le-leb low (u16_at t at) h, lt-ltb (u16_at t at) high g)))
 
 module _ (t : List ℕ) (at left variables : ℕ) (more : 0 < left) where
   -- the term at hand names no variable
   pub term_variable_out : variables ≤ u16_at t at → every (term_in_range variables) (terms left t at) ≡ false
   unfolding term_in_range term_at
   term_variable_out h =
-      rw (terms_turn left t at more) (every-fails (term_in_range variables) _ _ (rw (le-ltb (u16_at t at) variables h)))
+      rw (terms_turn left t at more) (every_fails (term_in_range variables) _ _ (rw (le-ltb (u16_at t at) variables h)))
 
   -- its weight is too far from 0
   pub term_weight_out :
@@ -61,7 +61,7 @@ module _ (t : List ℕ) (at left variables : ℕ) (more : 0 < left) where
   unfolding term_in_range term_at i32_at
   term_weight_out bits size e f h =
       rw (terms_turn left t at more)
-      (every-fails (term_in_range variables) _ _ (rw (← e, ← f, lt-leb size most_weight h) (and-false (ltb (u16_at t at) variables))))
+      (every_fails (term_in_range variables) _ _ (rw (← e, ← f, lt-leb size most_weight h) (and-false (ltb (u16_at t at) variables))))
 
   -- both are in range
   pub term_within :
@@ -74,7 +74,7 @@ module _ (t : List ℕ) (at left variables : ℕ) (more : 0 < left) where
   unfolding term_in_range term_at i32_at
   term_within bits size e f h g =
       rw (terms_turn left t at more)
-      (every-passes (term_in_range variables) _ _ (rw (lt-ltb (u16_at t at) variables h, ← e, ← f, le-leb size most_weight g)))
+      (every_passes (term_in_range variables) _ _ (rw (lt-ltb (u16_at t at) variables h, ← e, ← f, le-leb size most_weight g)))
 
 module _ (t : List ℕ) (at left wanted : ℕ) (more : 0 < left) where
   -- the word at hand is the wanted one
@@ -151,6 +151,6 @@ module _ (t : List ℕ) (at left : ℕ) where
   unfolding all_different
   none_different h = rw (no_words left t at h)
 
-  pub empty-sum : (sum : ℕ) → left ≤ 0 → sum < 65536 → (sum + total (words left t at)) % 2 ^ 16 ≡ sum
+  pub empty_sum : (sum : ℕ) → left ≤ 0 → sum < 65536 → (sum + total (words left t at)) % 2 ^ 16 ≡ sum
   unfolding total
-  empty-sum sum h g = rw (no_words left t at h) (rw add-zero (mod-eq_of_lt g))
+  empty_sum sum h g = rw (no_words left t at h) (rw add-zero (mod-eq_of_lt g))

@@ -20,29 +20,29 @@ unfolding u16 u32 i32 record_of encode_numbers encode_term encode_terms encode_r
 h_encoded = refl
 
 -- all of them, one claim
-pub sheet-encoded : map encode sheet_models ≡ sheet_tables
+pub sheet_encoded : map encode sheet_models ≡ sheet_tables
 unfolding u16 u32 i32 record_of encode_numbers encode_term encode_terms encode_row encode_rows
     encode_head encode_order before_check sum_of_words check_word encode_check sealed encode
-sheet-encoded = refl
+sheet_encoded = refl
 
 -- all of them are accepted
-pub sheet-accepted : map reading sheet_tables ≡ map (λ (m : Model). Accepted (frame_of m)) sheet_models
+pub sheet_accepted : map reading sheet_tables ≡ map (λ (m : Model). Accepted (frame_of m)) sheet_models
 unfolding u16_at u32_at i32_at words total every among all_different kind_of is_known is_head term_at terms clause_at linear_at row_of rows
     within term_in_range row_in_range is_whole head_first in_sequence room_for_row length_right in_range no_repeat adds_to_zero next_phase next_frame
     rule_of step_at ending_of scan reading u16 u32 i32 record_of encode_numbers encode_term encode_terms encode_row encode_rows frame_of
-sheet-accepted = refl
+sheet_accepted = refl
 
 -- and the models are within the limits
 bib_map_within : (budget : ℕ) → budget < 2147483648 → WithinLimits (bib_map budget)
 unfolding Each Different RowWithin IsI32
 bib_map_within budget h =
     record {
-      few-variables = omega arith;
-      few-requests = omega arith;
-      few-rows = omega arith;
-      rows-within = omega arith;
-      order-whole = refl;
-      order-within = omega arith;
+      few_variables = omega arith;
+      few_requests = omega arith;
+      few_rows = omega arith;
+      rows_within = omega arith;
+      order_whole = refl;
+      order_within = omega arith;
       order_different = omega arith;
     }
 
@@ -50,18 +50,18 @@ three_within : WithinLimits model_three
 unfolding Each Different RowWithin IsI32
 three_within =
     record {
-      few-variables = omega arith;
-      few-requests = omega arith;
-      few-rows = omega arith;
-      rows-within = omega arith;
-      order-whole = refl;
-      order-within = omega arith;
+      few_variables = omega arith;
+      few_requests = omega arith;
+      few_rows = omega arith;
+      rows_within = omega arith;
+      order_whole = refl;
+      order_within = omega arith;
       order_different = omega arith;
     }
 
-pub sheet-within : Each WithinLimits sheet_models
+pub sheet_within : Each WithinLimits sheet_models
 unfolding Each Different RowWithin IsI32
-sheet-within = (
+sheet_within = (
   omega arith,
   (
     omega arith,

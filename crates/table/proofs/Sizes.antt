@@ -19,10 +19,10 @@ unfolding record_of u16
 length-record kind body = omega arith
 
 -- numbers have two bytes each
-pub length-numbers : (ns : List ℕ) → length (encode_numbers ns) ≡ 2 * length ns
+pub length_numbers : (ns : List ℕ) → length (encode_numbers ns) ≡ 2 * length ns
 unfolding encode_numbers u16
-length-numbers [] = refl
-length-numbers (n ∷ ns) = let h = length-numbers ns in omega arith
+length_numbers [] = refl
+length_numbers (n ∷ ns) = let h = length_numbers ns in omega arith
 
 -- terms have six bytes each
 pub length-terms : (ts : List Term) → length (encode_terms ts) ≡ 6 * length ts
@@ -33,35 +33,35 @@ length-terms (term ∷ ts) = let h = length-terms ts in omega arith
 -- a clause: four bytes of record, the role, two for each literal
 pub length-clause : (role : ℕ) (literals : List ℕ) → length (encode_row (clause role literals)) ≡ 6 + 2 * length literals
 unfolding encode_row record_of u16
-length-clause role literals = let h = length-numbers literals in omega arith
+length-clause role literals = let h = length_numbers literals in omega arith
 
 -- a linear row: four bytes of record, the role, the bound, six for each term
 pub length-linear : (role : ℕ) (bound : ℤ) (ts : List Term) → length (encode_row (linear role bound ts)) ≡ 10 + 6 * length ts
 unfolding encode_row record_of i32 u32 u16
 length-linear role bound ts = let h = length-terms ts in omega arith
 
-pub length-head : (variables requests : ℕ) → length (encode_head variables requests) ≡ 8
+pub length_head : (variables requests : ℕ) → length (encode_head variables requests) ≡ 8
 unfolding encode_head record_of u16
-length-head variables requests = refl
+length_head variables requests = refl
 
-pub length-order : (order : List ℕ) → length (encode_order order) ≡ 4 + 2 * length order
+pub length_order : (order : List ℕ) → length (encode_order order) ≡ 4 + 2 * length order
 unfolding encode_order record_of u16
-length-order order = let h = length-numbers order in omega arith
+length_order order = let h = length_numbers order in omega arith
 
-pub length-check : (sum : ℕ) → length (encode_check sum) ≡ 6
+pub length_check : (sum : ℕ) → length (encode_check sum) ≡ 6
 unfolding encode_check record_of u16
-length-check sum = refl
+length_check sum = refl
 
 -- all that stands before CHECK: HEAD, rows, ORDER
 pub length_before_check : (m : Model) → length (before_check m) ≡ 12 + length (encode_rows m.rows) + 2 * length m.order
 unfolding before_check
 length_before_check m =
-    simp (length-append, length-head, length-order) (omega arith)
+    simp (length-append, length_head, length_order) (omega arith)
 
 -- the whole table: CHECK has six bytes
 pub length-sealed : (records : List ℕ) → length (sealed records) ≡ length records + 6
 unfolding sealed
-length-sealed records = simp (length-append, length-check)
+length-sealed records = simp (length-append, length_check)
 
 pub length-encode : (m : Model) → length (encode m) ≡ 18 + length (encode_rows m.rows) + 2 * length m.order
 unfolding encode
@@ -80,7 +80,7 @@ encode_records m = simp append_assoc
 pub length_row_at_most : (v n : ℕ) (r : Row) → RowWithin v n r → length (encode_row r) ≤ 134
 unfolding RowWithin
 length_row_at_most v n (clause role literals) within = omega (arith, length-clause role literals, within.few_literals)
-length_row_at_most v n (linear role bound ts) within = omega (arith, length-linear role bound ts, within.few-terms)
+length_row_at_most v n (linear role bound ts) within = omega (arith, length-linear role bound ts, within.few_terms)
 
 pub length_rows_at_most : (v n : ℕ) (rs : List Row) → Each (RowWithin v n) rs → length (encode_rows rs) ≤ 134 * length rs
 unfolding encode_rows Each
@@ -94,16 +94,16 @@ length_rows_at_most v n (r ∷ rs) within =
 pub few_rows_fit : (m : Model) → WithinLimits m → length m.rows ≤ 243 → length (encode m) ≤ 32768
 few_rows_fit m within few =
     let size = length-encode m in
-    let most = length_rows_at_most m.variables m.requests m.rows within.rows-within in
-    let whole = within.order-whole in
-    let requests = within.few-requests in
+    let most = length_rows_at_most m.variables m.requests m.rows within.rows_within in
+    let whole = within.order_whole in
+    let requests = within.few_requests in
     omega arith
 
 -- appended numbers
-pub numbers-append : (ns more : List ℕ) → encode_numbers (ns ++ more) ≡ encode_numbers ns ++ encode_numbers more
+pub numbers_append : (ns more : List ℕ) → encode_numbers (ns ++ more) ≡ encode_numbers ns ++ encode_numbers more
 unfolding encode_numbers u16
-numbers-append [] more = refl
-numbers-append (n ∷ ns) more = rw (numbers-append ns more)
+numbers_append [] more = refl
+numbers_append (n ∷ ns) more = rw (numbers_append ns more)
 
 -- appended terms
 pub terms-append : (ts more : List Term) → encode_terms (ts ++ more) ≡ encode_terms ts ++ encode_terms more
@@ -120,7 +120,7 @@ rows_append (r ∷ rs) more = rw (rows_append rs more) (sym (append_assoc (encod
 -- one number, term or row more
 pub number_appended : (ns : List ℕ) (n : ℕ) → encode_numbers (ns ++ (n ∷ [])) ≡ encode_numbers ns ++ u16 n
 unfolding encode_numbers
-number_appended ns n = numbers-append ns (n ∷ []) ∙ ap (λ l. encode_numbers ns ++ l) (append-nil (u16 n))
+number_appended ns n = numbers_append ns (n ∷ []) ∙ ap (λ l. encode_numbers ns ++ l) (append-nil (u16 n))
 
 pub term_appended : (ts : List Term) (term : Term) → encode_terms (ts ++ (term ∷ [])) ≡ encode_terms ts ++ encode_term term
 unfolding encode_terms

@@ -12,8 +12,8 @@ module _ (t : List ℕ) (at : ℕ) where
   past xs rest next e h = rw (e, ← drop-drop (length xs) at t, h) (drop_at xs rest (length xs) refl)
 
   -- bytes that stand at a place lie within the table
-  pub within-table : (x : ℕ) (xs : List ℕ) → drop at t ≡ x ∷ xs → at + length (x ∷ xs) ≡ length t
-  within-table x xs h = let e = sym (length-drop at t) ∙ ap length h in omega arith
+  pub within_table : (x : ℕ) (xs : List ℕ) → drop at t ≡ x ∷ xs → at + length (x ∷ xs) ≡ length t
+  within_table x xs h = let e = sym (length-drop at t) ∙ ap length h in omega arith
 
   -- two bytes are a word
   pub pair_read : (low high : ℕ) (rest : List ℕ) → drop at t ≡ low ∷ high ∷ rest → u16_at t at ≡ low + 256 * high
@@ -24,9 +24,9 @@ module _ (t : List ℕ) (at : ℕ) where
       rw (first, second)
 
   -- a u16
-  pub u16-read : (n : ℕ) (rest : List ℕ) → drop at t ≡ u16 n ++ rest → u16_at t at ≡ n
+  pub u16_read : (n : ℕ) (rest : List ℕ) → drop at t ≡ u16 n ++ rest → u16_at t at ≡ n
   unfolding u16
-  u16-read n rest h = let read = pair_read _ _ rest h in omega arith
+  u16_read n rest h = let read = pair_read _ _ rest h in omega arith
 
 -- the bytes after a u16
 pub past_u16 : (t : List ℕ) (at n : ℕ) (rest : List ℕ) (next : ℕ) → next ≡ at + 2 → drop at t ≡ u16 n ++ rest → drop next t ≡ rest
@@ -34,9 +34,9 @@ unfolding u16
 past_u16 t at n rest next e h = past t at (u16 n) rest next e h
 
 -- a u32
-pub u32-read : (t : List ℕ) (at n : ℕ) (rest : List ℕ) → drop at t ≡ u32 n ++ rest → u32_at t at ≡ n
+pub u32_read : (t : List ℕ) (at n : ℕ) (rest : List ℕ) → drop at t ≡ u32 n ++ rest → u32_at t at ≡ n
 unfolding u32_at u32 u16
-u32-read t at n rest h =
+u32_read t at n rest h =
     let low = pair_read t at _ _ _ h in
     let high = pair_read t (at + 2) _ _ _ (past t at (_ ∷ _ ∷ []) _ (at + 2) refl h) in
     omega arith
@@ -53,9 +53,9 @@ weight_fits (pos n) h = omega arith
 weight_fits (negsuc n) h = omega arith
 
 -- an i32
-pub i32-read : (t : List ℕ) (at : ℕ) (z : ℤ) (rest : List ℕ) → IsI32 z → drop at t ≡ i32 z ++ rest → i32_at t at ≡ z
+pub i32_read : (t : List ℕ) (at : ℕ) (z : ℤ) (rest : List ℕ) → IsI32 z → drop at t ≡ i32 z ++ rest → i32_at t at ≡ z
 unfolding i32_at i32
-i32-read t at z rest fits h = rw (u32-read t at (of_z w32 z) rest h) (to_z-of_z (i32_fits z fits))
+i32_read t at z rest fits h = rw (u32_read t at (of_z w32 z) rest h) (to_z-of_z (i32_fits z fits))
 
 -- the bytes after an i32
 pub past_i32 : (t : List ℕ) (at : ℕ) (z : ℤ) (rest : List ℕ) (next : ℕ) → next ≡ at + 4 → drop at t ≡ i32 z ++ rest → drop next t ≡ rest
@@ -63,41 +63,41 @@ unfolding i32 u32 u16
 past_i32 t at z rest next e h = past t at (i32 z) rest next e h
 
 -- numbers, one after another
-pub numbers-read : (t : List ℕ) (ns : List ℕ) (at : ℕ) (rest : List ℕ) → drop at t ≡ encode_numbers ns ++ rest → words (length ns) t at ≡ ns
+pub numbers_read : (t : List ℕ) (ns : List ℕ) (at : ℕ) (rest : List ℕ) → drop at t ≡ encode_numbers ns ++ rest → words (length ns) t at ≡ ns
 unfolding words encode_numbers u16
-numbers-read t [] at rest h = refl
-numbers-read t (n ∷ ns) at rest h =
-    let first = u16-read t at n (encode_numbers ns ++ rest) h in
-    let later = numbers-read t ns (at + 2) rest (past_u16 t at n (encode_numbers ns ++ rest) (at + 2) refl h) in
+numbers_read t [] at rest h = refl
+numbers_read t (n ∷ ns) at rest h =
+    let first = u16_read t at n (encode_numbers ns ++ rest) h in
+    let later = numbers_read t ns (at + 2) rest (past_u16 t at n (encode_numbers ns ++ rest) (at + 2) refl h) in
     cc
 
 -- terms, one after another
-pub terms-read :
+pub terms_read :
     (v : ℕ) (t : List ℕ) (ts : List Term) (at : ℕ) (rest : List ℕ) →
     Each (TermWithin v) ts →
     drop at t ≡ encode_terms ts ++ rest →
     terms (length ts) t at ≡ ts
 unfolding terms term_at encode_terms encode_term i32 u32 u16 Each
-terms-read v t [] at rest each h = refl
-terms-read v t (term ∷ ts) at rest each h =
+terms_read v t [] at rest each h = refl
+terms_read v t (term ∷ ts) at rest each h =
     let after-variable = past_u16 t at term.variable (i32 term.weight ++ (encode_terms ts ++ rest)) (at + 2) refl h in
-    let first = u16-read t at term.variable (i32 term.weight ++ (encode_terms ts ++ rest)) h in
-    let second = i32-read t (at + 2) term.weight (encode_terms ts ++ rest) (weight_fits term.weight each.0.weight-within) after-variable in
+    let first = u16_read t at term.variable (i32 term.weight ++ (encode_terms ts ++ rest)) h in
+    let second = i32_read t (at + 2) term.weight (encode_terms ts ++ rest) (weight_fits term.weight each.0.weight_within) after-variable in
     let later =
-    terms-read v t ts (at + 6) rest each.1
+    terms_read v t ts (at + 6) rest each.1
     (past_i32 t (at + 2) term.weight (encode_terms ts ++ rest) (at + 6) (omega arith) after-variable)
     in
     rw (first, second, later)
 
 -- words from a place on add up to the sum of the bytes that stand there
-pub sum-read :
+pub sum_read :
     (k : ℕ) (t : List ℕ) (at : ℕ) (xs rest : List ℕ) → length xs ≡ 2 * k → drop at t ≡ xs ++ rest → total (words k t at) ≡ sum_of_words xs
 unfolding words total sum_of_words
-sum-read zero t at [] rest e h = refl
-sum-read zero t at (x ∷ xs) rest e h = absurd (omega arith)
-sum-read (suc k) t at [] rest e h = absurd (omega arith)
-sum-read (suc k) t at (x ∷ []) rest e h = absurd (omega arith)
-sum-read (suc k) t at (x ∷ y ∷ xs) rest e h =
+sum_read zero t at [] rest e h = refl
+sum_read zero t at (x ∷ xs) rest e h = absurd (omega arith)
+sum_read (suc k) t at [] rest e h = absurd (omega arith)
+sum_read (suc k) t at (x ∷ []) rest e h = absurd (omega arith)
+sum_read (suc k) t at (x ∷ y ∷ xs) rest e h =
     let first = pair_read t at x y (xs ++ rest) h in
-    let later = sum-read k t (at + 2) xs rest (omega arith) (past t at (x ∷ y ∷ []) (xs ++ rest) (at + 2) refl h) in
+    let later = sum_read k t (at + 2) xs rest (omega arith) (past t at (x ∷ y ∷ []) (xs ++ rest) (at + 2) refl h) in
     omega arith

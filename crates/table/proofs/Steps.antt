@@ -17,14 +17,14 @@ use Rattle.table.specs.Reading.{refuse_unless, rule_of, in_phase, step_at, refus
 
 module _ (t : List ℕ) (at : ℕ) (s : State) where
   -- fewer than four bytes are left
-  pub cut-head : length t < at + 4 → Stop cut ≡ step_at t at s
+  pub cut_head : length t < at + 4 → Stop cut ≡ step_at t at s
   unfolding step_at is_whole
-  cut-head h = rw (lt-leb (at + 4) (length t) h)
+  cut_head h = rw (lt-leb (at + 4) (length t) h)
 
   -- the body passes the end
-  pub cut-body : length t < after t at → Stop cut ≡ step_at t at s
+  pub cut_body : length t < after t at → Stop cut ≡ step_at t at s
   unfolding step_at is_whole
-  cut-body h = rw (lt-leb (after t at) (length t) h, and-false (leb (at + 4) (length t)))
+  cut_body h = rw (lt-leb (after t at) (length t) h, and-false (leb (at + 4) (length t)))
 
   -- a whole record: its kind's rule in its phase decides
   pub whole_step :
@@ -89,10 +89,10 @@ next_passed t at s next e =
     }
 
 -- no byte is left
-pub scan-ends : (n : ℕ) (t : List ℕ) (at : ℕ) (s : State) → length t ≤ at → scan n t at s ≡ ending_of s.phase s.frame (length t)
+pub scan_ends : (n : ℕ) (t : List ℕ) (at : ℕ) (s : State) → length t ≤ at → scan n t at s ≡ ending_of s.phase s.frame (length t)
 unfolding scan
-scan-ends zero t at s h = refl
-scan-ends (suc n) t at s h = rw (le-ltb at (length t) h)
+scan_ends zero t at s h = refl
+scan_ends (suc n) t at s h = rw (le-ltb at (length t) h)
 
 -- the record at hand does what its step says
 scan_turns :
@@ -116,17 +116,17 @@ module _ (n : ℕ) (t : List ℕ) (at : ℕ) (s : State) (h : at < length t) (g 
 
 -- a frame's numbers of variables and requests are within their limits
 pub record Small (f : Frame) : Type 0 where
-  pub few-variables : f.variables ≤ most_variables
-  pub few-requests : f.requests ≤ most_requests
+  pub few_variables : f.variables ≤ most_variables
+  pub few_requests : f.requests ≤ most_requests
 
 small_by : (kind : Kind) (t : List ℕ) (at : ℕ) (f : Frame) → Small f → in_range kind t at f ≡ true → Small (next_frame kind t at f)
 unfolding in_range next_frame
 small_by Head t at f small e =
     let h = both _ _ e in
-    record { few-variables = leb-true (u16_at t (at + 4)) 20 h.0; few-requests = leb-true (u16_at t (at + 6)) 64 h.1 }
-small_by Clause t at f small e = record { few-variables = small.few-variables; few-requests = small.few-requests }
-small_by Linear t at f small e = record { few-variables = small.few-variables; few-requests = small.few-requests }
-small_by Order t at f small e = record { few-variables = small.few-variables; few-requests = small.few-requests }
+    record { few_variables = leb-true (u16_at t (at + 4)) 20 h.0; few_requests = leb-true (u16_at t (at + 6)) 64 h.1 }
+small_by Clause t at f small e = record { few_variables = small.few_variables; few_requests = small.few_requests }
+small_by Linear t at f small e = record { few_variables = small.few_variables; few_requests = small.few_requests }
+small_by Order t at f small e = record { few_variables = small.few_variables; few_requests = small.few_requests }
 small_by Check t at f small e = small
 small_by Unknown t at f small e = small
 

@@ -49,8 +49,8 @@ module _ (kind : Kind) (t : List ℕ) (at : ℕ) (phase : Phase) (f : Frame) whe
                 unfolding rule_of
                 not_zero_lem h9 = rw (h4, h3, h7, h10, h5, h6, h8, h9)
 
-                pub passes-all :
+                pub passes_all :
                     adds_to_zero kind t at ≡ true →
                     Next (in_phase (next_phase kind) (next_frame kind t at f)) ≡ rule_of kind t at (in_phase phase f)
                 unfolding rule_of
-                passes-all h9 = rw (h4, h3, h7, h10, h5, h6, h8, h9)
+                passes_all h9 = rw (h4, h3, h7, h10, h5, h6, h8, h9)

@@ -13,12 +13,12 @@ module _ (m : Model) (r : Row) where
   unfolding with_row Each
   with_row_within within room row =
       record {
-        few-variables = within.few-variables;
-        few-requests = within.few-requests;
-        few-rows = simp length-append (omega arith);
-        rows-within = each_append (RowWithin m.variables m.requests) m.rows (r ∷ []) within.rows-within (row, tt);
-        order-whole = within.order-whole;
-        order-within = within.order-within;
+        few_variables = within.few_variables;
+        few_requests = within.few_requests;
+        few_rows = simp length-append (omega arith);
+        rows_within = each_append (RowWithin m.variables m.requests) m.rows (r ∷ []) within.rows_within (row, tt);
+        order_whole = within.order_whole;
+        order_within = within.order_within;
         order_different = within.order_different;
       }
 

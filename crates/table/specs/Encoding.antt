@@ -44,12 +44,12 @@ encode_term term = u16 term.variable ++ i32 term.weight
 -- terms, one after another
 unfoldable pub encode_terms : List Term → List ℕ
 encode_terms [] = []
-encode_terms (term ∷ row-terms) = encode_term term ++ encode_terms row-terms
+encode_terms (term ∷ row_terms) = encode_term term ++ encode_terms row_terms
 
 -- a row: 2 CLAUSE is u16 role, then literals of u16; 3 LINEAR is u16 role, i32 bound, then terms
 unfoldable pub encode_row : Row → List ℕ
 encode_row (clause role literals) = record_of 2 (u16 role ++ encode_numbers literals)
-encode_row (linear role bound row-terms) = record_of 3 (u16 role ++ i32 bound ++ encode_terms row-terms)
+encode_row (linear role bound row_terms) = record_of 3 (u16 role ++ i32 bound ++ encode_terms row_terms)
 
 -- rows, one after another
 unfoldable pub encode_rows : List Row → List ℕ

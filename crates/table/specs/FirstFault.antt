@@ -96,7 +96,7 @@ TooLongIsTold = (t : List ℕ) → 32768 < length t → reading t ≡ refused_at
 
 -- one record read by itself, in a table of V 20 and N 64 that has come so far and has so many rows before it
 abbrev pub alone : Phase → (rows : ℕ) → List ℕ → Step
-alone phase rows record-bytes = step_at record-bytes 0 (in_phase phase (record { variables = 20; requests = 64; rows = rows; order = 0 }))
+alone phase rows record_bytes = step_at record_bytes 0 (in_phase phase (record { variables = 20; requests = 64; rows = rows; order = 0 }))
 
 -- the number that a record is refused with, and 0 where it passes
 unfoldable pub number_of_step : Step → ℕ
@@ -105,10 +105,10 @@ number_of_step (Stop number) = number
 
 -- a HEAD, a CLAUSE and a LINEAR by itself
 abbrev pub head_told : List ℕ → ℕ
-head_told record-bytes = number_of_step (alone Start 0 record-bytes)
+head_told record_bytes = number_of_step (alone Start 0 record_bytes)
 
 abbrev pub row_told : List ℕ → ℕ
-row_told record-bytes = number_of_step (alone Rows 0 record-bytes)
+row_told record_bytes = number_of_step (alone Rows 0 record_bytes)
 
 -- a CLAUSE of a role with one literal, and a LINEAR of a role with bound 0 and one term: variable, and weight as four bytes
 abbrev pub clause_with : (role literal : ℕ) → List ℕ
@@ -154,10 +154,10 @@ pub record LimitsAreTold : Type 0 where
   pub variable_19 : row_told (linear_with 0 19 (replicate 4 0)) ≡ 0
   pub variable_20 : row_told (linear_with 0 20 (replicate 4 0)) ≡ 6
   -- weights -1,000,000 to 1,000,000
-  pub weight-most : row_told (linear_with 0 0 (0x40 ∷ 0x42 ∷ 0x0F ∷ 0x00 ∷ [])) ≡ 0
-  pub weight-above : row_told (linear_with 0 0 (0x41 ∷ 0x42 ∷ 0x0F ∷ 0x00 ∷ [])) ≡ 6
-  pub weight-least : row_told (linear_with 0 0 (0xC0 ∷ 0xBD ∷ 0xF0 ∷ 0xFF ∷ [])) ≡ 0
-  pub weight-below : row_told (linear_with 0 0 (0xBF ∷ 0xBD ∷ 0xF0 ∷ 0xFF ∷ [])) ≡ 6
+  pub weight_most : row_told (linear_with 0 0 (0x40 ∷ 0x42 ∷ 0x0F ∷ 0x00 ∷ [])) ≡ 0
+  pub weight_above : row_told (linear_with 0 0 (0x41 ∷ 0x42 ∷ 0x0F ∷ 0x00 ∷ [])) ≡ 6
+  pub weight_least : row_told (linear_with 0 0 (0xC0 ∷ 0xBD ∷ 0xF0 ∷ 0xFF ∷ [])) ≡ 0
+  pub weight_below : row_told (linear_with 0 0 (0xBF ∷ 0xBD ∷ 0xF0 ∷ 0xFF ∷ [])) ≡ 6
   -- any i32 as the bound
   pub bound_most : row_told (bytes_with 6 3 (0 ∷ 0 ∷ 0xFF ∷ 0xFF ∷ 0xFF ∷ 0x7F ∷ [])) ≡ 0
   pub bound_least : row_told (bytes_with 6 3 (0 ∷ 0 ∷ 0x00 ∷ 0x00 ∷ 0x00 ∷ 0x80 ∷ [])) ≡ 0

@@ -38,10 +38,10 @@ pub record Kept (t : List ℕ) (f : Frame) : Type 0 where
   pub head : (kind_at t 0 ≡ Head) × (length_at t 0 ≡ 4)
   pub variables : f.variables ≡ u16_at t 4
   pub requests : f.requests ≡ u16_at t 6
-  pub few-variables : f.variables ≤ most_variables
-  pub few-requests : f.requests ≤ most_requests
-  pub few-rows : f.rows ≤ most_rows
-  pub rows-kept : RowsKept f.variables f.requests t f.rows first_row f.order
+  pub few_variables : f.variables ≤ most_variables
+  pub few_requests : f.requests ≤ most_requests
+  pub few_rows : f.rows ≤ most_rows
+  pub rows_kept : RowsKept f.variables f.requests t f.rows first_row f.order
   pub order : (kind_at t f.order ≡ Order) × (length_at t f.order ≡ 2 * f.requests)
   pub order_is_in_range : order_in_range f.requests (order_of t f) ≡ true
   pub order_different : all_different (order_of t f) ≡ true

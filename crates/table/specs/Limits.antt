@@ -42,7 +42,7 @@ term_in_range v term = nat_lt term.variable v && nat_le (unsigned_abs term.weigh
 -- with v variables and n requests: the role is 0 to n, every literal or term names a variable below v
 unfoldable pub row_in_range : ℕ → ℕ → Row → Bool
 row_in_range v n (clause role literals) = nat_le role n && every (within 0 (2 * v)) literals
-row_in_range v n (linear role bound row-terms) = nat_le role n && every (term_in_range v) row-terms
+row_in_range v n (linear role bound row_terms) = nat_le role n && every (term_in_range v) row_terms
 
 -- every number of an order is one of the requests 1 to n
 abbrev pub order_in_range : ℕ → List ℕ → Bool

@@ -39,8 +39,8 @@ LiteralWithin v literal = literal / 2 < v
 
 -- a term's variable is one of 0 to v - 1, its weight -1,000,000 to 1,000,000
 pub record TermWithin (v : ℕ) (term : Term) : Type 0 where
-  pub variable-within : term.variable < v
-  pub weight-within : unsigned_abs term.weight ≤ 1000000
+  pub variable_within : term.variable < v
+  pub weight_within : unsigned_abs term.weight ≤ 1000000
 
 -- a clause has role 0 to n and 0 to 64 literals
 pub record ClauseWithin (v n role : ℕ) (literals : List ℕ) : Type 0 where
@@ -49,16 +49,16 @@ pub record ClauseWithin (v n role : ℕ) (literals : List ℕ) : Type 0 where
   pub literals_within : Each (LiteralWithin v) literals
 
 -- a linear row has role 0 to n, any i32 as its bound, and 0 to 20 terms
-pub record LinearWithin (v n role : ℕ) (bound : ℤ) (row-terms : List Term) : Type 0 where
+pub record LinearWithin (v n role : ℕ) (bound : ℤ) (row_terms : List Term) : Type 0 where
   pub role_within : role ≤ n
   pub bound_within : IsI32 bound
-  pub few-terms : length row-terms ≤ 20
-  pub terms-within : Each (TermWithin v) row-terms
+  pub few_terms : length row_terms ≤ 20
+  pub terms_within : Each (TermWithin v) row_terms
 
 -- a row of a table with v variables and n requests
 unfoldable pub RowWithin : ℕ → ℕ → Row → Type 0
 RowWithin v n (clause role literals) = ClauseWithin v n role literals
-RowWithin v n (linear role bound row-terms) = LinearWithin v n role bound row-terms
+RowWithin v n (linear role bound row_terms) = LinearWithin v n role bound row_terms
 
 -- a request's number is 1 to n
 abbrev pub IsRequest : ℕ → ℕ → Type 0
@@ -66,10 +66,10 @@ IsRequest n request = (1 ≤ request) × (request ≤ n)
 
 -- a model within the limits: variables, 0 to 20; requests, 0 to 64; at most 512 rows; the order names each request once
 pub record WithinLimits (m : Model) : Type 0 where
-  pub few-variables : m.variables ≤ 20
-  pub few-requests : m.requests ≤ 64
-  pub few-rows : length m.rows ≤ 512
-  pub rows-within : Each (RowWithin m.variables m.requests) m.rows
-  pub order-whole : length m.order ≡ m.requests
-  pub order-within : Each (IsRequest m.requests) m.order
+  pub few_variables : m.variables ≤ 20
+  pub few_requests : m.requests ≤ 64
+  pub few_rows : length m.rows ≤ 512
+  pub rows_within : Each (RowWithin m.variables m.requests) m.rows
+  pub order_whole : length m.order ≡ m.requests
+  pub order_within : Each (IsRequest m.requests) m.order
   pub order_different : Different m.order

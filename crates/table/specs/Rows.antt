@@ -11,7 +11,7 @@ pub record Term : Type 0 where
 -- a row: role 0 is the host, role r is request r; a literal is twice the variable, plus 1 where it is negated
 pub data Row : Type 0 where
   clause : (role : ℕ) (literals : List ℕ) → Row
-  linear : (role : ℕ) (bound : ℤ) (row-terms : List Term) → Row
+  linear : (role : ℕ) (bound : ℤ) (row_terms : List Term) → Row
 
 -- the length L of the record at a place
 abbrev pub length_at : List ℕ → ℕ → ℕ

@@ -1,4 +1,4 @@
-use Rattle.meaning.proofs.OneRow.{row-long, clause-asked, linear-long, linear-asked}
+use Rattle.meaning.proofs.OneRow.{row_long, clause_asked, linear_long, linear_asked}
 use Rattle.std.proofs.Common.{sym, ◌∙◌, arith, rules}
 use Rattle.choice.proofs.scores.score_row.Statement.{statement}
 use Rattle.choice.proofs.scores.score_row.Tie as tie
@@ -30,7 +30,7 @@ add-score-clause c = search rules
 sub-score-clause : tie.Need-overflow-sub-score-clause
 sub-score-clause c =
     let known = c.before.before.before.before.before.before.requires in
-    omega (arith, row-long _ _ _ _ known.row_kept)
+    omega (arith, row_long _ _ _ _ known.row_kept)
 
 -- src/scores.rt:138:9
 score-clause-requires : tie.Need-score-clause-requires
@@ -38,7 +38,7 @@ score-clause-requires c κs =
     let entry = c.before.before.before.before.before.before.before.args in
     let known = c.before.before.before.before.before.before.before.requires in
     let number = c.before.before.before.number in
-    (clause-asked entry.table.now entry.at _ known number.result number.ensures.0
+    (clause_asked entry.table.now entry.at _ known number.result number.ensures.0
     (sym c.before.before.number2.ensures.0 ∙ c.before.if1.true)).whole
 
 -- src/scores.rt:139:9
@@ -55,7 +55,7 @@ sub-count c =
     let entry = c.before.before.before.before.before.before.args in
     let known = c.before.before.before.before.before.before.requires in
     let number = c.before.before.number in
-    (linear-long entry.table.now entry.at _ known number.result number.ensures.0 (λ two. c.if1.false (c.before.number2.ensures.0 ∙ two))).0
+    (linear_long entry.table.now entry.at _ known number.result number.ensures.0 (λ two. c.if1.false (c.before.number2.ensures.0 ∙ two))).0
 
 -- src/scores.rt:142:31
 add-room-of : tie.Need-overflow-add-room-of
@@ -71,7 +71,7 @@ long-number-requires c κs =
     let entry = c.before.before.before.before.before.before.args in
     let known = c.before.before.before.before.before.before.requires in
     let number = c.before.before.number in
-    (linear-long entry.table.now entry.at _ known number.result number.ensures.0 (λ two. c.if1.false (c.before.number2.ensures.0 ∙ two))).1
+    (linear_long entry.table.now entry.at _ known number.result number.ensures.0 (λ two. c.if1.false (c.before.number2.ensures.0 ∙ two))).1
 
 -- src/scores.rt:142:9
 room-of-requires : tie.Need-room-of-requires
@@ -79,7 +79,7 @@ room-of-requires c κs =
     let entry = c.before.before.before.before.before.before.before.args in
     let known = c.before.before.before.before.before.before.before.requires in
     let number = c.before.before.before.number in (
-      linear-asked entry.table.now entry.at _ known number.result number.ensures.0
+      linear_asked entry.table.now entry.at _ known number.result number.ensures.0
           (λ two. c.before.if1.false (c.before.before.number2.ensures.0 ∙ two)) number.ensures.1,
       omega arith,
     )
@@ -94,7 +94,7 @@ score-terms-requires c κs =
     let entry = c.before.before.before.before.before.before.before.before.before.args in
     let known = c.before.before.before.before.before.before.before.before.before.requires in
     let number = c.before.before.before.before.before.number in
-    (linear-asked entry.table.now entry.at _ known number.result number.ensures.0
+    (linear_asked entry.table.now entry.at _ known number.result number.ensures.0
     (λ two. c.before.before.before.if1.false (c.before.before.before.before.number2.ensures.0 ∙ two)) number.ensures.1).whole
 
 -- src/scores.rt:133:1

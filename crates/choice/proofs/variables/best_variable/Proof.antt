@@ -1,5 +1,5 @@
 use Rattle.choice.specs.Chosen.{Chosen}
-use Rattle.choice.proofs.BestVariable.{none-chosen, chosen-all}
+use Rattle.choice.proofs.BestVariable.{none_chosen, chosen_all}
 use Rattle.std.proofs.Common.{◌-◌, ◌≤◌, length, arith}
 use Rattle.choice.proofs.variables.best_variable.Statement.{statement}
 use Rattle.choice.proofs.variables.best_variable.Tie as tie
@@ -15,7 +15,7 @@ decreases-loop values notes best₀ next₀ best next = length values - next
 
 -- src/variables.rt:43:5
 loop-holds : tie.Need-loop-init invariant-loop decreases-loop
-loop-holds c = (omega arith, none-chosen _)
+loop-holds c = (omega arith, none_chosen _)
 
 -- src/variables.rt:44:9
 better-requires : tie.Need-better-requires invariant-loop decreases-loop
@@ -36,7 +36,7 @@ loop-again c = (omega arith, c.better.ensures)
 -- src/variables.rt:37:1
 returns : tie.Need-returns invariant-loop decreases-loop
 returns c =
-    chosen-all c.before.before.before.before.args.values.now c.before.loop.next
+    chosen_all c.before.before.before.before.args.values.now c.before.loop.next
     c.before.loop.best c.loop-test.false c.before.loop.invariant.1
 
 pub best-variable-spec : {M : Type 1} → statement M

@@ -1,4 +1,4 @@
-use Rattle.explain.proofs.Questions.{order_fits, may_ask, same-question}
+use Rattle.explain.proofs.Questions.{order_fits, may_ask, same_question}
 use borrow.Author.Rules.{rules}
 use Rattle.explain.proofs.asking.ask.Statement.{statement}
 use Rattle.explain.proofs.asking.ask.Tie as tie
@@ -30,7 +30,7 @@ returns : tie.Need-returns
 returns c =
     let entry = c.before.before.before.before.before.before.before.before.before.before.args in
     let known = c.before.before.before.before.before.before.before.before.before.before.requires in
-    same-question entry.table.now entry.frame entry.order.now entry.flags.now known _
+    same_question entry.table.now entry.frame entry.order.now entry.flags.now known _
     c.before.before.before.before.mark.ensures c.can_stand.result c.can_stand.ensures
 
 pub ask-spec : {M : Type 1} → statement M

@@ -15,7 +15,7 @@ use Rattle.table.proofs.Steps.{both}
 use Rattle.preference.specs.Named.{named}
 use Rattle.explain.specs.Asking.{marked}
 use Rattle.meaning.proofs.Tested.{every_at}
-use Rattle.explain.proofs.Marking.{named-chosen, named_left_out, none_named}
+use Rattle.explain.proofs.Marking.{named_chosen, named_left_out, none_named}
 use Prim.Native.Nat.{ℕ}
 use Rattle.explain.proofs.asking.mark.Statement.{statement}
 use Rattle.explain.proofs.asking.mark.Tie as tie
@@ -70,7 +70,7 @@ loop-again c =
       omega arith,
       simp length-set loop.invariant.1,
       sym (ap (λ (l : List ℕ). marked l loop.chosen)
-          (named-chosen entry.order.now entry.flags.now loop.place 0 false
+          (named_chosen entry.order.now entry.flags.now loop.place 0 false
           known.0 c.before.before.before.loop-test.true c.before.if1.true))
           ∙ loop.invariant.2,
     )

@@ -1,6 +1,6 @@
 -- `hainscope::calls::hainscope_body` meets its contract.
 use mathlib.Core.Path.{sym, ◌∙◌}
-use Rattle.hainscope.proofs.TableCalls.{body-found, body_missing}
+use Rattle.hainscope.proofs.TableCalls.{body_found, body_missing}
 use borrow.Author.Rules.{rules}
 use Rattle.hainscope.proofs.calls.hainscope_body.Statement.{statement}
 use Rattle.hainscope.proofs.calls.hainscope_body.Tie as tie
@@ -17,7 +17,7 @@ enum-known-found-2 c = search rules
 returns : tie.Need-returns
 returns c =
     let entry = c.before.before.before.before.before.args in
-    body-found entry.table.now entry.number _ _ (sym c.before.before.before.find-body.ensures ∙ c.before.found.given.1)
+    body_found entry.table.now entry.number _ _ (sym c.before.before.before.find-body.ensures ∙ c.before.found.given.1)
 
 returns-2 : tie.Need-returns-2
 returns-2 c =

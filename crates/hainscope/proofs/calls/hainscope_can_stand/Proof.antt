@@ -1,7 +1,7 @@
 -- `hainscope::calls::hainscope_can_stand` meets its contract.
 use mathlib.Core.Path.{sym, ◌∙◌}
 use Rattle.table.proofs.Accepted.{accepted_keeps}
-use Rattle.hainscope.proofs.TableCalls.{question-answered}
+use Rattle.hainscope.proofs.TableCalls.{question_answered}
 use Rattle.promises.proofs.Outcomes.{can_stand_refused}
 use borrow.Author.Rules.{rules}
 use Rattle.hainscope.proofs.calls.hainscope_can_stand.Statement.{statement}
@@ -25,7 +25,7 @@ returns : tie.Need-returns
 returns c =
     let entry = c.before.before.before.before.before.before.before.args in
     let read = c.before.before.before.before.before.read in
-    question-answered entry.table.now entry.selection _ _ _
+    question_answered entry.table.now entry.selection _ _ _
     (sym read.ensures ∙ c.before.before.before.told.given.1) c.can-stand-accepted.ensures
 
 returns-2 : tie.Need-returns-2

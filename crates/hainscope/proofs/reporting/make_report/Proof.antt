@@ -1,8 +1,8 @@
 -- `hainscope::reporting::make_report` meets its contract.
 use mathlib.Core.Path.{sym, ◌∙◌}
 use Rattle.table.proofs.Accepted.{accepted_keeps}
-use Rattle.hainscope.proofs.Keeping.{report-kept}
-use Rattle.promises.proofs.Outcomes.{report-refused}
+use Rattle.hainscope.proofs.Keeping.{report_kept}
+use Rattle.promises.proofs.Outcomes.{report_refused}
 use borrow.Author.Rules.{rules}
 use Rattle.hainscope.proofs.reporting.make_report.Statement.{statement}
 use Rattle.hainscope.proofs.reporting.make_report.Tie as tie
@@ -30,13 +30,13 @@ returns c =
     let entry = c.before.before.before.before.before.before.before.before.before.before.before.args in
     let read = c.before.before.before.before.before.before.before.before.read in
     let told = c.before.before.before.before.before.before.told in
-    report-kept entry.method entry.table.now entry.buffer.now entry.start _ _ _ _
+    report_kept entry.method entry.table.now entry.buffer.now entry.start _ _ _ _
     (sym read.ensures ∙ told.given.1) c.before.before.report-accepted.ensures
 
 returns-2 : tie.Need-returns-2
 returns-2 c =
     let entry = c.before.before.before.before.before.before.args in
-    report-refused entry.method entry.table.now entry.buffer.now entry.start _
+    report_refused entry.method entry.table.now entry.buffer.now entry.start _
     (sym c.before.before.before.read.ensures ∙ c.before.told2.given.1)
 
 pub make-report-spec : {M : Type 1} → statement M

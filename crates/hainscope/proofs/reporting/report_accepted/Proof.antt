@@ -1,7 +1,7 @@
 -- `hainscope::reporting::report_accepted` meets its contract.
 use native.Mathlib.Omega.{arith}
 use borrow.Author.Tests.{not-true, not-false}
-use Rattle.hainscope.proofs.Writing.{no_room_left, start_within, enough, part_ready, report-written, order-long}
+use Rattle.hainscope.proofs.Writing.{no_room_left, start_within, enough, part_ready, report_written, order_long}
 use borrow.Author.Rules.{rules}
 use Rattle.hainscope.proofs.reporting.report_accepted.Statement.{statement}
 use Rattle.hainscope.proofs.reporting.report_accepted.Tie as tie
@@ -50,7 +50,7 @@ add-place c =
       enough entry.method entry.table.now entry.frame entry.buffer.now
           entry.start has_room.result has_room.ensures (not-false _ if1.false),
       c.before.before.write-record.ensures.within,
-      order-long entry.table.now entry.frame,
+      order_long entry.table.now entry.frame,
     )
 
 same_length : tie.Need-same-length
@@ -60,7 +60,7 @@ returns-2 : tie.Need-returns-2
 returns-2 c =
     let entry = c.before.before.before.before.before.before.before.before.args in
     let has_room = c.before.before.before.before.before.has_room in
-    report-written entry.method entry.table.now entry.frame entry.buffer.now entry.start has_room.result
+    report_written entry.method entry.table.now entry.frame entry.buffer.now entry.start has_room.result
     has_room.ensures (not-false _ c.before.before.before.before.if1.false) _ _ c.before.before.write-record.ensures
 
 pub report-accepted-spec : {M : Type 1} → statement M

@@ -1,6 +1,6 @@
 -- `hainscope::reporting::write_answer` meets its contract.
 use native.Mathlib.Omega.{arith}
-use Rattle.hainscope.proofs.Writing.{order_lent, answer-written}
+use Rattle.hainscope.proofs.Writing.{order_lent, answer_written}
 use borrow.Author.Rules.{rules}
 use Rattle.hainscope.proofs.reporting.write_answer.Statement.{statement}
 use Rattle.hainscope.proofs.reporting.write_answer.Tie as tie
@@ -36,7 +36,7 @@ write-requires c κs =
     record {
       paired = omega (arith, answer.auto.1.1.1.1.0, load.auto.1.1.0, known.1, known.2);
       enough = omega (arith, load.auto.1.1.0, known.0.room, known.1);
-      countable = omega (arith, load.auto.1.1.0, known.1, known.0.kept.few-requests);
+      countable = omega (arith, load.auto.1.1.0, known.1, known.0.kept.few_requests);
     }
 
 same_length : tie.Need-same-length
@@ -58,7 +58,7 @@ returns c =
     c.before.before.before.before.before.before.before.before.before.before.before.before.before.before.before.before.before.before.load in
     let answer = c.before.before.before.before.before.before.before.before.before.before.before.answer in
     let record-kind = c.before.before.before.before.before.record-kind in
-    answer-written entry.table.now entry.frame known.0.kept entry.order.now _ known.1 load.ensures entry.method
+    answer_written entry.table.now entry.frame known.0.kept entry.order.now _ known.1 load.ensures entry.method
     entry.flags.now _ _ _ known.2 answer.ensures _ _ _ _ record-kind.ensures c.before.before.write.ensures
 
 pub write-answer-spec : {M : Type 1} → statement M

@@ -14,7 +14,7 @@ array-borrow-prefix-order c = search rules
 slice-aggregate-write-answer : tie.Need-slice-aggregate-write-answer
 slice-aggregate-write-answer c =
     sym (length-take-le c.before.before.before.before.args.frame.requests
-    (replicate most_requests 0) c.before.before.before.before.requires.kept.few-requests)
+    (replicate most_requests 0) c.before.before.before.before.requires.kept.few_requests)
 
 array-borrow-prefix-flags : tie.Need-array-borrow-prefix-flags
 array-borrow-prefix-flags c = search rules
@@ -23,15 +23,15 @@ slice-aggregate-write-answer-2 : tie.Need-slice-aggregate-write-answer-2
 slice-aggregate-write-answer-2 c =
     let entry = c.before.before.before.before.before.args in
     let known = c.before.before.before.before.before.requires in
-    sym (length-take-le entry.frame.requests (replicate most_requests false) known.kept.few-requests)
+    sym (length-take-le entry.frame.requests (replicate most_requests false) known.kept.few_requests)
 
 write-answer-requires : tie.Need-write-answer-requires
 write-answer-requires c κs =
     let entry = c.before.before.before.before.before.before.before.args in
     let known = c.before.before.before.before.before.before.before.requires in (
       known,
-      length-take-le entry.frame.requests (replicate most_requests 0) known.kept.few-requests,
-      length-take-le entry.frame.requests (replicate most_requests false) known.kept.few-requests,
+      length-take-le entry.frame.requests (replicate most_requests 0) known.kept.few_requests,
+      length-take-le entry.frame.requests (replicate most_requests false) known.kept.few_requests,
     )
 
 same_length : tie.Need-same-length

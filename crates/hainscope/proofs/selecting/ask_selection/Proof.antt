@@ -12,12 +12,12 @@ array-borrow-prefix-chosen : tie.Need-array-borrow-prefix-chosen
 array-borrow-prefix-chosen c = search rules
 
 slice-aggregate-ask-spread : tie.Need-slice-aggregate-ask-spread
-slice-aggregate-ask-spread c = sym (entries_length c.before.before.before.args.frame c.before.before.before.requires.few-requests)
+slice-aggregate-ask-spread c = sym (entries_length c.before.before.before.args.frame c.before.before.before.requires.few_requests)
 
 ask-spread-requires : tie.Need-ask-spread-requires
 ask-spread-requires c κs =
     let known = c.before.before.before.before.requires in
-    (known, entries_length c.before.before.before.before.args.frame known.few-requests)
+    (known, entries_length c.before.before.before.before.args.frame known.few_requests)
 
 returns : tie.Need-returns
 returns c = search rules

@@ -1,4 +1,4 @@
-use Rattle.meaning.proofs.OneRow.{row-long, clause-asked, linear-long, linear-asked, clause_tested, linear_tested}
+use Rattle.meaning.proofs.OneRow.{row_long, clause_asked, linear_long, linear_asked, clause_tested, linear_tested}
 use mathlib.Core.Path.{sym, ◌∙◌}
 use native.Mathlib.Omega.{arith}
 use borrow.Author.Rules.{rules}
@@ -31,7 +31,7 @@ add-clause-state c = search rules
 sub-clause-state : tie.Need-overflow-sub-clause-state
 sub-clause-state c =
     let known = c.before.before.before.before.before.requires in
-    omega (arith, row-long _ _ _ _ known.row_kept)
+    omega (arith, row_long _ _ _ _ known.row_kept)
 
 -- src/rows.rt:23:9
 clause-state-requires : tie.Need-clause-state-requires
@@ -39,7 +39,7 @@ clause-state-requires c κs =
     let entry = c.before.before.before.before.before.args in
     let known = c.before.before.before.before.before.requires in
     let number = c.before.before.number in
-    clause-asked entry.table.now entry.at _ known number.result number.ensures.0 (sym c.before.number2.ensures.0 ∙ c.if1.true)
+    clause_asked entry.table.now entry.at _ known number.result number.ensures.0 (sym c.before.number2.ensures.0 ∙ c.if1.true)
 
 -- src/rows.rt:23:9
 returns : tie.Need-returns
@@ -60,7 +60,7 @@ long-number-requires c κs =
     let entry = c.before.before.before.before.before.args in
     let known = c.before.before.before.before.before.requires in
     let number = c.before.before.number in
-    (linear-long entry.table.now entry.at _ known number.result number.ensures.0 (λ two. c.if1.false (c.before.number2.ensures.0 ∙ two))).1
+    (linear_long entry.table.now entry.at _ known number.result number.ensures.0 (λ two. c.if1.false (c.before.number2.ensures.0 ∙ two))).1
 
 -- src/rows.rt:26:25
 add-linear-state : tie.Need-overflow-add-linear-state
@@ -72,7 +72,7 @@ sub-linear-state c =
     let entry = c.before.before.before.before.before.before.args in
     let known = c.before.before.before.before.before.before.requires in
     let number = c.before.before.before.number in
-    (linear-long entry.table.now entry.at _ known number.result number.ensures.0
+    (linear_long entry.table.now entry.at _ known number.result number.ensures.0
     (λ two. c.before.if1.false (c.before.before.number2.ensures.0 ∙ two))).0
 
 -- src/rows.rt:26:5
@@ -81,7 +81,7 @@ linear-state-requires c κs =
     let entry = c.before.before.before.before.before.before.args in
     let known = c.before.before.before.before.before.before.requires in
     let number = c.before.before.before.number in (
-      linear-asked entry.table.now entry.at _ known number.result number.ensures.0
+      linear_asked entry.table.now entry.at _ known number.result number.ensures.0
           (λ two. c.before.if1.false (c.before.before.number2.ensures.0 ∙ two)) number.ensures.1,
       omega arith,
     )

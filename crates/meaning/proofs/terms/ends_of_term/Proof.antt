@@ -1,4 +1,4 @@
-use Rattle.meaning.proofs.Sums.{weight-counts, negative_side, positive_side, term_told}
+use Rattle.meaning.proofs.Sums.{weight_counts, negative_side, positive_side, term_told}
 use Rattle.meaning.specs.States.{negative_of, positive_of}
 use Prim.Native.Nat.{◌*◌}
 use native.Mathlib.Omega.{arith}
@@ -41,7 +41,7 @@ mul-raised c =
     record {
       fits = omega (
         arith,
-        (weight-counts long-number.result long-number.ensures.1 negative_of entry.table.now entry.at
+        (weight_counts long-number.result long-number.ensures.1 negative_of entry.table.now entry.at
             entry.values.now number.result c.times.result _ number.ensures.0 long-number.ensures.0
             c.times.ensures (negative_side long-number.result long-number.ensures.1)).1,
       );
@@ -53,7 +53,7 @@ raised-requires c κs =
     let entry = c.before.before.before.before.before.before.args in
     let number = c.before.before.before.number in
     let long-number = c.before.before.long-number in
-    (weight-counts long-number.result long-number.ensures.1 negative_of entry.table.now entry.at
+    (weight_counts long-number.result long-number.ensures.1 negative_of entry.table.now entry.at
     entry.values.now number.result c.times.result _ number.ensures.0 long-number.ensures.0
     c.times.ensures (negative_side long-number.result long-number.ensures.1)).1
 
@@ -74,7 +74,7 @@ mul-raised-2 c =
     record {
       fits = omega (
         arith,
-        (weight-counts long-number.result long-number.ensures.1 positive_of entry.table.now entry.at
+        (weight_counts long-number.result long-number.ensures.1 positive_of entry.table.now entry.at
             entry.values.now number.result c.times2.result _ number.ensures.0 long-number.ensures.0
             c.times2.ensures (positive_side long-number.result long-number.ensures.1)).1,
       );
@@ -86,7 +86,7 @@ raised-requires-2 c κs =
     let entry = c.before.before.before.before.before.before.before.before.args in
     let number = c.before.before.before.before.before.number in
     let long-number = c.before.before.before.before.long-number in
-    (weight-counts long-number.result long-number.ensures.1 positive_of entry.table.now entry.at
+    (weight_counts long-number.result long-number.ensures.1 positive_of entry.table.now entry.at
     entry.values.now number.result c.times2.result _ number.ensures.0 long-number.ensures.0
     c.times2.ensures (positive_side long-number.result long-number.ensures.1)).1
 
@@ -98,11 +98,11 @@ returns c =
     let long-number = c.before.before.before.before.before.long-number in
     let times = c.before.before.before.times in
     let negative =
-    weight-counts long-number.result long-number.ensures.1 negative_of entry.table.now entry.at entry.values.now
+    weight_counts long-number.result long-number.ensures.1 negative_of entry.table.now entry.at entry.values.now
     number.result times.result _ number.ensures.0 long-number.ensures.0 times.ensures
     (negative_side long-number.result long-number.ensures.1) in
     let positive =
-    weight-counts long-number.result long-number.ensures.1 positive_of entry.table.now entry.at entry.values.now
+    weight_counts long-number.result long-number.ensures.1 positive_of entry.table.now entry.at entry.values.now
     number.result c.before.times2.result _ number.ensures.0 long-number.ensures.0 c.before.times2.ensures
     (positive_side long-number.result long-number.ensures.1) in
     term_told entry.values.now entry.table.now entry.at

@@ -1,4 +1,4 @@
-use Rattle.meaning.proofs.Sums.{counted-small, counted_by_products}
+use Rattle.meaning.proofs.Sums.{counted_small, counted_by_products}
 use lib.Dec.{eqb}
 use native.Mathlib.Omega.{arith}
 use borrow.Author.Rules.{rules}
@@ -13,7 +13,7 @@ cast-result c = search rules
 
 -- src/terms.rt:39:5
 mul-result : tie.Need-overflow-mul-result
-mul-result c = omega (arith, counted-small c.args.free (eqb c.args.value 2) (eqb c.args.value 1) c.requires)
+mul-result c = omega (arith, counted_small c.args.free (eqb c.args.value 2) (eqb c.args.value 1) c.requires)
 
 -- src/terms.rt:39:35
 cast-result-2 : tie.Need-overflow-cast-result-2
@@ -21,7 +21,7 @@ cast-result-2 c = search rules
 
 -- src/terms.rt:39:5
 add-result : tie.Need-overflow-add-result
-add-result c = omega (arith, counted-small c.args.free (eqb c.args.value 2) (eqb c.args.value 1) c.requires)
+add-result c = omega (arith, counted_small c.args.free (eqb c.args.value 2) (eqb c.args.value 1) c.requires)
 
 -- src/terms.rt:33:1
 returns : tie.Need-returns

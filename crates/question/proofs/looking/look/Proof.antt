@@ -1,6 +1,6 @@
-use Rattle.meaning.proofs.HalfMade.{free-below}
+use Rattle.meaning.proofs.HalfMade.{free_below}
 use Rattle.question.proofs.Rearranging.{asked_open}
-use Rattle.question.proofs.Seeing.{row-fails, none_open, rows_open, not_met, met_all}
+use Rattle.question.proofs.Seeing.{row_fails, none_open, rows_open, not_met, met_all}
 use borrow.Author.Rules.{rules}
 use Rattle.question.proofs.looking.look.Statement.{statement}
 use Rattle.question.proofs.looking.look.Tie as tie
@@ -36,7 +36,7 @@ returns : tie.Need-returns
 returns c =
     let entry = c.before.before.before.before.before.before.before.before.before.before.before.before.before.args in
     let narrow-unless-blind = c.before.before.before.before.before.before.before.narrow-unless-blind in
-    row-fails _ entry.values.now _ entry.places.now _ _ narrow-unless-blind.ensures c.before.before.before.before.if1.true
+    row_fails _ entry.values.now _ entry.places.now _ _ narrow-unless-blind.ensures c.before.before.before.before.if1.true
 
 -- src/looking.rt:44:9
 same-length-3 : tie.Need-same-length-3
@@ -128,7 +128,7 @@ returns-5 c =
     let choose = c.before.before.before.before.before.before.before.before.choose in
     let if3 = c.before.before.before.before.before.if3 in
     met_all _ entry.values.now _ entry.places.now _ _ narrow-unless-blind.ensures if1.false _ _
-    c.before.before.before.narrow.ensures c.if4.false (free-below entry.values.now (choose.ensures.0.none_free if3.false))
+    c.before.before.before.narrow.ensures c.if4.false (free_below entry.values.now (choose.ensures.0.none_free if3.false))
 
 pub look_spec : {M : Type 1} → statement M
 look_spec =

@@ -1,8 +1,8 @@
 use mathlib.Core.Path.{◌≡◌, refl, ◌∙◌}
 use Prim.Native.Nat.{◌-◌, ◌≤◌}
 use lib.ListN.{length}
-use Rattle.question.proofs.OpenRows.{Sorted, sorted_start, sorted_turn, sorted_end, row-lost}
-use Rattle.question.proofs.Rearranging.{asked-rearranged, length_exchanged}
+use Rattle.question.proofs.OpenRows.{Sorted, sorted_start, sorted_turn, sorted_end, row_lost}
+use Rattle.question.proofs.Rearranging.{asked_rearranged, length_exchanged}
 use native.Mathlib.Omega.{arith}
 use borrow.Author.Rules.{rules}
 use Rattle.question.proofs.narrowing.narrow.Statement.{statement}
@@ -40,7 +40,7 @@ row-state-requires : tie.Need-row-state-requires invariant-loop decreases-loop
 row-state-requires c κs =
     let known = c.before.before.before.before.before.before.requires in
     let loop = c.before.before.loop in
-    (asked-rearranged _ _ loop.places _ _ loop.invariant.3.rearranged loop.invariant.2 known).each loop.next c.before.loop-test.true
+    (asked_rearranged _ _ loop.places _ _ loop.invariant.3.rearranged loop.invariant.2 known).each loop.next c.before.loop-test.true
 
 -- src/rows.rt:50:13
 exchange-requires : tie.Need-exchange-requires invariant-loop decreases-loop
@@ -65,7 +65,7 @@ returns c =
     let loop-test = c.before.before.before.before.before.before.before.loop-test in
     let row-state = c.before.before.before.before.before.row-state in
     rw c.before.before.exchange.ensures
-    (row-lost _ _ _ _ loop.places loop.auto loop.next loop.invariant.3 (omega arith) (omega arith) loop-test.true
+    (row_lost _ _ _ _ loop.places loop.auto loop.next loop.invariant.3 (omega arith) (omega arith) loop-test.true
     row-state.result row-state.ensures c.before.before.before.before.if1.true _ (omega arith))
 
 -- src/rows.rt:53:9

@@ -8,7 +8,7 @@ use Rattle.table.specs.Kept.{RowsKept, first_row}
 use Rattle.meaning.specs.Stands.{by_role}
 use Rattle.question.specs.MayAsk.{MayAsk}
 use Rattle.question.specs.Counting.{counting_places}
-use Rattle.meaning.proofs.OneRow.{row-long}
+use Rattle.meaning.proofs.OneRow.{row_long}
 use Rattle.question.proofs.Noting.{rows_kept_turn, row_here, role_there, note_turn, all_noted}
 use borrow.Author.Rules.{rules}
 use Rattle.question.proofs.places.note_places.Statement.{statement}
@@ -29,7 +29,7 @@ decreases-loop table chosen places₀ at₀ left₀ noted₀ places at left note
 loop-holds : tie.Need-loop-init invariant-loop decreases-loop
 loop-holds c =
     let known = c.before.before.before.requires in
-    (c.before.before.before.args.frame, known.0, known.0.kept.rows-kept, omega arith, refl, refl)
+    (c.before.before.before.args.frame, known.0, known.0.kept.rows_kept, omega arith, refl, refl)
 
 cast-places : tie.Need-overflow-cast-places invariant-loop decreases-loop
 cast-places c =
@@ -52,7 +52,7 @@ number-requires c κs =
     omega (
       arith,
       (row_here _ _ _ c.before.loop.invariant.1 _ _ c.loop-test.true c.before.loop.invariant.2).whole,
-      row-long _ _ _ _ (row_here _ _ _ c.before.loop.invariant.1 _ _ c.loop-test.true c.before.loop.invariant.2),
+      row_long _ _ _ _ (row_here _ _ _ c.before.loop.invariant.1 _ _ c.loop-test.true c.before.loop.invariant.2),
     )
 
 shared-slice-read-taken-up : tie.Need-shared-slice-read-taken-up invariant-loop decreases-loop

@@ -58,9 +58,9 @@ complete-requires c κs =
       noted_asked _ entry.frame _ _ _ _ known.0 note-places.ensures known.1,
       omega arith,
       record {
-        numbered = omega (arith, known.0.kept.few-variables, known.1);
-        each = omega (arith, known.0.kept.few-variables, known.1);
-        each-waiting = omega (arith, known.0.kept.few-variables, known.1);
+        numbered = omega (arith, known.0.kept.few_variables, known.1);
+        each = omega (arith, known.0.kept.few_variables, known.1);
+        each_waiting = omega (arith, known.0.kept.few_variables, known.1);
       },
     )
 

@@ -5,10 +5,10 @@ use native.Mathlib.Omega.{arith}
 use borrow.Author.Rules.{rules}
 use Rattle.meaning.specs.HalfMade.{undecided}
 use Rattle.question.specs.Trail.{decisions}
-use Rattle.question.proofs.Branches.{nodes, ahead, trail-length}
+use Rattle.question.proofs.Branches.{nodes, ahead, trail_length}
 use Rattle.question.proofs.Searching.{Reached}
 use Rattle.question.proofs.LentTrail.{search_start, depth_most, may_look, look_met, look_fails, may_take_back, search_fails}
-use Rattle.question.proofs.LentTrail.{last_decision, turned_back, fewer_back, open_rows, trail-room, one_deeper, fewer_deeper}
+use Rattle.question.proofs.LentTrail.{last_decision, turned_back, fewer_back, open_rows, trail_room, one_deeper, fewer_deeper}
 use Rattle.question.proofs.search.complete.Statement.{statement}
 use Rattle.question.proofs.search.complete.Tie as tie
 use Rattle.question.proofs.search.complete.Reads as reads
@@ -55,7 +55,7 @@ same_length c = search rules
 same-length-2 : tie.Need-same-length-2 invariant-loop decreases-loop
 same-length-2 c =
     let loop = c.before.before.before.before.before.before.before.before.before.before.loop in
-    trail-length _ _ _ _ _ _ _ _ loop.invariant.4.path
+    trail_length _ _ _ _ _ _ _ _ loop.invariant.4.path
 
 -- src/search.rt:43:26
 same-length-3 : tie.Need-same-length-3 invariant-loop decreases-loop
@@ -92,7 +92,7 @@ take-back-requires c κs =
     c.before.before.before.before.before.before.before.before.before.before.before.before.before.before.before.before.before.before.before.before.requires in
     let loop = c.before.before.before.before.before.before.before.before.before.before.before.before.before.loop in
     may_take_back entry.table.now entry.places.now entry.noted entry.values.now loop.variables loop.waiting _ _ _ _
-    loop.invariant.4 (omega (arith, loop.invariant.2, known.2.each)) (omega (arith, loop.invariant.3, known.2.each-waiting))
+    loop.invariant.4 (omega (arith, loop.invariant.2, known.2.each)) (omega (arith, loop.invariant.3, known.2.each_waiting))
 
 -- src/search.rt:47:21
 same-length-6 : tie.Need-same-length-6 invariant-loop decreases-loop
@@ -103,7 +103,7 @@ same-length-7 : tie.Need-same-length-7 invariant-loop decreases-loop
 same-length-7 c =
     let loop =
     c.before.before.before.before.before.before.before.before.before.before.before.before.before.before.before.before.before.loop in
-    c.before.before.before.take_back.auto.0 ∙ trail-length _ _ _ _ _ _ _ _ loop.inv.4.path
+    c.before.before.before.take_back.auto.0 ∙ trail_length _ _ _ _ _ _ _ _ loop.inv.4.path
 
 -- src/search.rt:47:21
 same-length-8 : tie.Need-same-length-8 invariant-loop decreases-loop
@@ -203,7 +203,7 @@ turn-requires c κs =
         arith,
         depth_most entry.table.now entry.places.now entry.noted entry.values.now loop.variables loop.waiting _ _ _ _ loop.inv.4,
         loop.inv.3,
-        known.2.each-waiting,
+        known.2.each_waiting,
         take_back.ensures.few,
         if1.false,
       ),
@@ -239,7 +239,7 @@ loop-less c =
     depth_most entry.table.now entry.places.now entry.noted entry.values.now loop.variables loop.waiting _ _ _ _ loop.inv.4 in
     fewer_back entry.table.now entry.places.now entry.noted entry.values.now loop.variables loop.waiting _ _ _ _
     take_back.result _ _ failed take_back.ensures (omega (arith, if1.false)) _ _ _
-    (omega (arith, deep, loop.inv.3, known.2.each-waiting, take_back.ensures.few, if1.false))
+    (omega (arith, deep, loop.inv.3, known.2.each_waiting, take_back.ensures.few, if1.false))
     turn.ensures.0 turn.ensures.1 turn.ensures.2
 
 -- src/search.rt:40:5
@@ -269,7 +269,7 @@ loop-again c =
       turn.auto.1.1.0 ∙ loop.inv.3,
       turned_back entry.table.now entry.places.now entry.noted entry.values.now loop.variables loop.waiting _ _ _ _
           take_back.result _ _ failed take_back.ensures (omega (arith, if1.false)) _ _ _
-          (omega (arith, deep, loop.inv.3, known.2.each-waiting, take_back.ensures.few, if1.false))
+          (omega (arith, deep, loop.inv.3, known.2.each_waiting, take_back.ensures.few, if1.false))
           turn.ensures.0 turn.ensures.1 turn.ensures.2,
     )
 
@@ -300,7 +300,7 @@ cast-variables c =
       arith,
       (open_rows entry.table.now entry.places.now entry.noted entry.values.now loop.variables loop.waiting _ loop.depth
           loop.count loop.values loop.invariant.4 _ _ look.ensures c.before.seen.given.0.0 c.before.seen.given.1).inside,
-      trail-length _ _ _ _ _ _ _ _ loop.invariant.4.path,
+      trail_length _ _ _ _ _ _ _ _ loop.invariant.4.path,
       known.2.numbered,
     )
 
@@ -315,7 +315,7 @@ mul-variables c =
     let look = c.before.before.before.before.before.before.before.look in
     omega (
       arith,
-      trail-room entry.table.now entry.places.now entry.noted entry.values.now loop.variables loop.waiting _
+      trail_room entry.table.now entry.places.now entry.noted entry.values.now loop.variables loop.waiting _
           loop.depth loop.count loop.values loop.invariant.4 _ _ look.ensures c.before.seen.given.0.0 c.before.seen.given.1,
       known.2.numbered,
     )
@@ -331,7 +331,7 @@ slice-write-variables c =
     let look = c.before.before.before.before.before.before.before.look in
     omega (
       arith,
-      trail-room entry.table.now entry.places.now entry.noted entry.values.now loop.variables loop.waiting _
+      trail_room entry.table.now entry.places.now entry.noted entry.values.now loop.variables loop.waiting _
           loop.depth loop.count loop.values loop.invariant.4 _ _ look.ensures c.before.seen.given.0.0 c.before.seen.given.1,
       loop.invariant.2,
       known.2.each,
@@ -365,7 +365,7 @@ mul-waiting c =
     let look = c.before.before.before.before.before.before.before.look in
     omega (
       arith,
-      trail-room entry.table.now entry.places.now entry.noted entry.values.now loop.variables loop.waiting _
+      trail_room entry.table.now entry.places.now entry.noted entry.values.now loop.variables loop.waiting _
           loop.depth loop.count loop.values loop.invariant.4 _ _ look.ensures c.before.seen.given.0.0 c.before.seen.given.1,
       known.2.numbered,
     )
@@ -381,10 +381,10 @@ slice-write-waiting c =
     let look = c.before.before.before.before.before.before.before.look in
     omega (
       arith,
-      trail-room entry.table.now entry.places.now entry.noted entry.values.now loop.variables loop.waiting _
+      trail_room entry.table.now entry.places.now entry.noted entry.values.now loop.variables loop.waiting _
           loop.depth loop.count loop.values loop.invariant.4 _ _ look.ensures c.before.seen.given.0.0 c.before.seen.given.1,
       loop.invariant.3,
-      known.2.each-waiting,
+      known.2.each_waiting,
     )
 
 -- src/search.rt:59:25
@@ -398,7 +398,7 @@ add-depth c =
     let look = c.before.before.before.before.before.before.before.look in
     omega (
       arith,
-      trail-room entry.table.now entry.places.now entry.noted entry.values.now loop.variables loop.waiting _
+      trail_room entry.table.now entry.places.now entry.noted entry.values.now loop.variables loop.waiting _
           loop.depth loop.count loop.values loop.invariant.4 _ _ look.ensures c.before.seen.given.0.0 c.before.seen.given.1,
       known.2.numbered,
     )
@@ -417,7 +417,7 @@ blind-of-requires-2 c κs =
       arith,
       (open_rows entry.table.now entry.places.now entry.noted entry.values.now loop.variables loop.waiting _
           loop.depth loop.count loop.values loop.invariant.4 _ _ look.ensures seen.given.0.0 seen.given.1).inside,
-      trail-length _ _ _ _ _ _ _ _ loop.invariant.4.path,
+      trail_length _ _ _ _ _ _ _ _ loop.invariant.4.path,
       known.2.numbered,
     )
 
@@ -432,11 +432,11 @@ loop-less-2 c =
     let look = c.before.before.before.before.before.before.before.before.before.look in
     let seen = c.before.before.before.seen in
     let room =
-    trail-room entry.table.now entry.places.now entry.noted entry.values.now loop.variables loop.waiting _
+    trail_room entry.table.now entry.places.now entry.noted entry.values.now loop.variables loop.waiting _
     loop.depth loop.count loop.values loop.invariant.4 _ _ look.ensures seen.given.0.0 seen.given.1 in
     fewer_deeper entry.table.now entry.places.now entry.noted entry.values.now loop.variables loop.waiting _
     loop.depth loop.count loop.values loop.invariant.4 _ _ look.ensures seen.given.0.0 seen.given.1
-    (omega (arith, room, loop.invariant.2, known.2.each)) (omega (arith, room, loop.invariant.3, known.2.each-waiting)) _
+    (omega (arith, room, loop.invariant.2, known.2.each)) (omega (arith, room, loop.invariant.3, known.2.each_waiting)) _
 
 -- src/search.rt:40:5
 loop-again-2 : tie.Need-loop-preserved-2 invariant-loop decreases-loop
@@ -449,7 +449,7 @@ loop-again-2 c =
     let look = c.before.before.before.before.before.before.before.before.before.look in
     let seen = c.before.before.before.seen in
     let room =
-    trail-room entry.table.now entry.places.now entry.noted entry.values.now loop.variables loop.waiting _
+    trail_room entry.table.now entry.places.now entry.noted entry.values.now loop.variables loop.waiting _
     loop.depth loop.count loop.values loop.invariant.4 _ _ look.ensures seen.given.0.0 seen.given.1 in (
       look.auto.1.0 ∙ loop.invariant.0,
       look.auto.1.1.1.1.0 ∙ loop.invariant.1,
@@ -457,7 +457,7 @@ loop-again-2 c =
       simp length-set loop.invariant.3,
       one_deeper entry.table.now entry.places.now entry.noted entry.values.now loop.variables loop.waiting _
           loop.depth loop.count loop.values loop.invariant.4 _ _ look.ensures seen.given.0.0 seen.given.1
-          (omega (arith, room, loop.invariant.2, known.2.each)) (omega (arith, room, loop.invariant.3, known.2.each-waiting)),
+          (omega (arith, room, loop.invariant.2, known.2.each)) (omega (arith, room, loop.invariant.3, known.2.each_waiting)),
     )
 
 pub complete-spec : {M : Type 1} → statement M

@@ -1,6 +1,6 @@
 -- `table::body::find_body` meets its contract.
 use Rattle.std.proofs.Common.{sym, ◌∙◌, rules}
-use Rattle.table.proofs.Bodies.{accepted-whole, found_in_accepted, refused-body}
+use Rattle.table.proofs.Bodies.{accepted_whole, found_in_accepted, refused_body}
 use Rattle.table.proofs.body.find_body.Statement.{statement}
 use Rattle.table.proofs.body.find_body.Tie as tie
 
@@ -11,7 +11,7 @@ enum_told : tie.Need-enum-told
 enum_told c = search rules
 
 walk-requires : tie.Need-walk-requires
-walk-requires c κs = accepted-whole c.before.before.before.before.args.table.now _ (sym c.before.before.read.ensures ∙ c.enum_told.given.1)
+walk-requires c κs = accepted_whole c.before.before.before.before.args.table.now _ (sym c.before.before.read.ensures ∙ c.enum_told.given.1)
 
 enum-known-told : tie.Need-enum-known-told
 enum-known-told c = search rules
@@ -25,7 +25,7 @@ returns c =
 returns-2 : tie.Need-returns-2
 returns-2 c =
     let entry = c.before.before.before.before.before.args in
-    refused-body entry.table.now entry.wanted _ (sym c.before.before.before.read.ensures ∙ c.before.told.given.1)
+    refused_body entry.table.now entry.wanted _ (sym c.before.before.before.read.ensures ∙ c.before.told.given.1)
 
 pub find-body-spec : {M : Type 1} → statement M
 find-body-spec =

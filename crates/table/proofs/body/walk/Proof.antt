@@ -1,7 +1,7 @@
 -- `table::body::walk` meets its contract.
 use Rattle.std.proofs.Common.{◌≡◌, ◌-◌, refl, ap, ◌∙◌, arith}
 use Rattle.table.specs.Body.{place_of_record, WholeFrom, stretch_at}
-use Rattle.table.proofs.Bodies.{place_turn, place_here, whole_here, whole_next, none_found, body-found}
+use Rattle.table.proofs.Bodies.{place_turn, place_here, whole_here, whole_next, none_found, body_found}
 use Rattle.table.proofs.body.walk.Statement.{statement}
 use Rattle.table.proofs.body.walk.Tie as tie
 
@@ -70,7 +70,7 @@ returns-3 : tie.Need-returns-3 invariant-loop decreases-loop
 returns-3 c =
     let entry = c.before.before.before.before.before.args in
     let loop = c.before.before.before.loop in
-    body-found entry.table.now loop.at c.number2.result c.before.if2.false c.number2.ensures.0
+    body_found entry.table.now loop.at c.number2.result c.before.if2.false c.number2.ensures.0
     ∙ ap (stretch_at entry.table.now) (place_here loop.left entry.table.now loop.at c.before.before.loop-test.false ∙ loop.invariant.0)
 
 pub walk-spec : {M : Type 1} → statement M

@@ -1,7 +1,7 @@
 -- `table::check::sum_of_words` meets its contract.
 use Rattle.std.proofs.Common.{◌≡◌, ◌+◌, ◌*◌, ◌%◌, ◌^◌, ◌<◌, sym, ◌∙◌, zero-add, arith, rules}
 use Rattle.table.specs.Words.{words, total}
-use Rattle.table.proofs.Runs.{sum_turn, empty-sum}
+use Rattle.table.proofs.Runs.{sum_turn, empty_sum}
 use Rattle.table.proofs.check.sum_of_words.Statement.{statement}
 use Rattle.table.proofs.check.sum_of_words.Tie as tie
 
@@ -43,7 +43,7 @@ loop-again c =
 
 returns : tie.Need-returns invariant-loop decreases-loop
 returns c =
-    sym (empty-sum c.before.before.before.args.table.now c.before.loop.at
+    sym (empty_sum c.before.before.before.args.table.now c.before.loop.at
     c.before.loop.left c.before.loop.sum c.loop-test.false c.before.loop.invariant.1)
     ∙ c.before.loop.invariant.2
 

@@ -1,7 +1,7 @@
 -- `table::reading::read` meets its contract.
 use Rattle.std.proofs.Common.{◌≡◌, ℕ, ◌+◌, ◌-◌, ◌≤◌, length, sym, refl, ◌∙◌, arith, rules, le-ltb, lt-ltb}
 use Rattle.table.specs.Reading.{reading, scan, beginning}
-use Rattle.table.proofs.Steps.{Small, next_passed, small_next, scan-ends, scan_goes_on, scan_stops}
+use Rattle.table.proofs.Steps.{Small, next_passed, small_next, scan_ends, scan_goes_on, scan_stops}
 use Rattle.table.proofs.reading.read.Statement.{statement}
 use Rattle.table.proofs.reading.read.Tie as tie
 
@@ -18,7 +18,7 @@ returns c = rw (lt-ltb 32768 (length c.before.before.args.table.now) c.if1.true)
 
 loop-holds : tie.Need-loop-init invariant-loop decreases-loop
 loop-holds c =
-    (omega arith, record { few-variables = omega arith; few-requests = omega arith }, (length c.before.before.args.table.now, omega arith, refl))
+    (omega arith, record { few_variables = omega arith; few_requests = omega arith }, (length c.before.before.args.table.now, omega arith, refl))
 
 step-requires : tie.Need-step-requires invariant-loop decreases-loop
 step-requires c κs = search rules
@@ -87,7 +87,7 @@ returns-3 c =
     let entry = c.before.before.before.before.before.before.args in
     let loop = c.before.before.before.loop in
     rw (le-ltb 32768 (length entry.table.now) c.before.before.before.before.if1.false)
-    (c.ending.ensures ∙ sym (scan-ends loop.invariant.2.0 entry.table.now loop.at loop.state c.before.before.loop-test.false) ∙ loop.invariant.2.2)
+    (c.ending.ensures ∙ sym (scan_ends loop.invariant.2.0 entry.table.now loop.at loop.state c.before.before.loop-test.false) ∙ loop.invariant.2.2)
 
 pub read_spec : {M : Type 1} → statement M
 read_spec =

@@ -34,7 +34,7 @@ returns-2 c =
     let number = c.before.before.before.number in
     let number2 = c.before.before.number2 in
     linear_in_range entry.table.now entry.at entry.variables entry.requests number2.result number.result
-    number2.ensures.0 number.ensures.0 c.before.if1.false c.terms-within.result c.terms-within.ensures
+    number2.ensures.0 number.ensures.0 c.before.if1.false c.terms_within.result c.terms_within.ensures
 
 pub linear-in-range-spec : {M : Type 1} → statement M
 linear-in-range-spec =

@@ -4,7 +4,7 @@ use Rattle.table.specs.declared.record.Phase.TheVariants.{Ordered}
 use Rattle.table.specs.Kinds.{Check, is_known, is_head}
 use Rattle.table.specs.Rows.{length_at}
 use Rattle.table.specs.Tests.{head_first, in_sequence, room_for_row, length_right, in_range, no_repeat, adds_to_zero, next_phase, next_frame}
-use Rattle.table.proofs.WaysOut.{wrong_length_lem, not_zero_lem, passes-all}
+use Rattle.table.proofs.WaysOut.{wrong_length_lem, not_zero_lem, passes_all}
 use Rattle.table.proofs.rules.check.Statement.{statement}
 use Rattle.table.proofs.rules.check.Tie as tie
 
@@ -36,7 +36,7 @@ returns-3 : tie.Need-returns-3
 unfolding is_known is_head head_first in_sequence room_for_row length_right in_range no_repeat adds_to_zero next_phase next_frame
 returns-3 c =
     let entry = c.before.before.before.before.before.args in
-    passes-all Check entry.table.now entry.at Ordered entry.frame refl refl refl refl
+    passes_all Check entry.table.now entry.at Ordered entry.frame refl refl refl refl
     (eq-eqb (length_at entry.table.now entry.at) 2 (omega arith)) refl refl
     (rw (← c.before.sum-of-words.ensures) (eq-eqb c.before.sum-of-words.result 0 c.if2.false))
 

@@ -5,8 +5,8 @@ use Rattle.table.specs.declared.record.Phase.TheVariants.{Rows}
 use Rattle.table.specs.Kinds.{Clause, is_known, is_head}
 use Rattle.table.specs.Rows.{length_at}
 use Rattle.table.specs.Tests.{head_first, in_sequence, room_for_row, in_range, no_repeat, adds_to_zero, next_phase, next_frame}
-use Rattle.table.proofs.Lengths.{clause-short, clause-long, clause_odd, clause-right}
-use Rattle.table.proofs.WaysOut.{too_many_rows_lem, wrong_length_lem, out_of_range_lem, passes-all}
+use Rattle.table.proofs.Lengths.{clause_short, clause_long, clause_odd, clause_right}
+use Rattle.table.proofs.WaysOut.{too_many_rows_lem, wrong_length_lem, out_of_range_lem, passes_all}
 use Rattle.table.proofs.rules.clause.Statement.{statement}
 use Rattle.table.proofs.rules.clause.Tie as tie
 
@@ -25,7 +25,7 @@ returns-2 c =
     let entry = c.before.before.before.before.before.args in
     wrong_length_lem Clause entry.table.now entry.at Rows entry.frame refl refl refl
     (lt-ltb entry.frame.rows 512 c.before.before.if1.false)
-    (clause-short entry.frame.requests (length_at entry.table.now entry.at) (omega arith))
+    (clause_short entry.frame.requests (length_at entry.table.now entry.at) (omega arith))
 
 mul-if3 : tie.Need-overflow-mul-if3
 mul-if3 c = search rules
@@ -39,7 +39,7 @@ returns-3 c =
     let entry = c.before.before.before.before.before.before.args in
     wrong_length_lem Clause entry.table.now entry.at Rows entry.frame refl refl refl
     (lt-ltb entry.frame.rows 512 c.before.before.before.if1.false)
-    (clause-long entry.frame.requests (length_at entry.table.now entry.at) (omega arith))
+    (clause_long entry.frame.requests (length_at entry.table.now entry.at) (omega arith))
 
 returns-4 : tie.Need-returns-4
 unfolding is_known is_head head_first in_sequence room_for_row
@@ -58,7 +58,7 @@ returns-5 c =
     let entry = c.before.before.before.before.before.before.before.before.before.args in
     let if1 = c.before.before.before.before.before.before.if1 in
     out_of_range_lem Clause entry.table.now entry.at Rows entry.frame refl refl refl (lt-ltb entry.frame.rows 512 if1.false)
-    (clause-right entry.frame.requests (length_at entry.table.now entry.at) (omega arith) (omega arith) (omega arith))
+    (clause_right entry.frame.requests (length_at entry.table.now entry.at) (omega arith) (omega arith) (omega arith))
     (sym c.before.clause_in_range.ensures ∙ not-true _ c.if5.true)
 
 add-rows-so-far : tie.Need-overflow-add-rows-so-far
@@ -73,8 +73,8 @@ returns-6 c =
     let entry = c.before.before.before.before.before.before.before.before.before.before.before.args in
     let if1 = c.before.before.before.before.before.before.before.before.if1 in
     c.rows-so-far.ensures
-    ∙ passes-all Clause entry.table.now entry.at Rows entry.frame refl refl refl (lt-ltb entry.frame.rows 512 if1.false)
-    (clause-right entry.frame.requests (length_at entry.table.now entry.at) (omega arith) (omega arith) (omega arith))
+    ∙ passes_all Clause entry.table.now entry.at Rows entry.frame refl refl refl (lt-ltb entry.frame.rows 512 if1.false)
+    (clause_right entry.frame.requests (length_at entry.table.now entry.at) (omega arith) (omega arith) (omega arith))
     (sym c.before.before.before.clause_in_range.ensures ∙ not-false _ c.before.before.if5.false) refl refl
 
 pub clause-spec : {M : Type 1} → statement M

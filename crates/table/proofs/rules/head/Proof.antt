@@ -7,7 +7,7 @@ use Rattle.table.specs.Words.{u16_at}
 use Rattle.table.specs.Kinds.{Head, is_known, is_head}
 use Rattle.table.specs.Rows.{length_at}
 use Rattle.table.specs.Tests.{head_first, in_sequence, room_for_row, length_right, in_range, no_repeat, adds_to_zero, next_phase, next_frame}
-use Rattle.table.proofs.WaysOut.{wrong_length_lem, out_of_range_lem, passes-all}
+use Rattle.table.proofs.WaysOut.{wrong_length_lem, out_of_range_lem, passes_all}
 use Rattle.table.proofs.rules.head.Statement.{statement}
 use Rattle.table.proofs.rules.head.Tie as tie
 
@@ -55,7 +55,7 @@ unfolding is_known is_head head_first in_sequence room_for_row length_right in_r
 returns-4 c =
     let entry = c.before.before.before.before.before.before.before.before.args in
     λ f. rw (c.rows-so-far.ensures, c.before.before.before.before.number2.ensures.0, c.before.before.number3.ensures.0)
-    (passes-all Head entry.table.now entry.at Start f refl refl refl refl (eq-eqb (length_at entry.table.now entry.at) 4 (omega arith)) (rw (
+    (passes_all Head entry.table.now entry.at Start f refl refl refl refl (eq-eqb (length_at entry.table.now entry.at) 4 (omega arith)) (rw (
       le-leb (u16_at entry.table.now (entry.at + 4)) 20 (omega arith),
       le-leb (u16_at entry.table.now (entry.at + 6)) 64 (omega arith),
     )) refl refl)

@@ -5,7 +5,7 @@ use Rattle.table.specs.declared.record.Phase.TheVariants.{Rows}
 use Rattle.table.specs.Kinds.{Order, is_known, is_head}
 use Rattle.table.specs.Rows.{length_at}
 use Rattle.table.specs.Tests.{head_first, in_sequence, room_for_row, length_right, in_range, no_repeat, adds_to_zero, next_phase, next_frame}
-use Rattle.table.proofs.WaysOut.{wrong_length_lem, out_of_range_lem, named_twice_lem, passes-all}
+use Rattle.table.proofs.WaysOut.{wrong_length_lem, out_of_range_lem, named_twice_lem, passes_all}
 use Rattle.table.proofs.rules.order.Statement.{statement}
 use Rattle.table.proofs.rules.order.Tie as tie
 
@@ -58,7 +58,7 @@ returns-4 : tie.Need-returns-4
 unfolding is_known is_head head_first in_sequence room_for_row length_right in_range no_repeat adds_to_zero next_phase next_frame
 returns-4 c =
     let entry = c.before.before.before.before.before.before.before.args in
-    passes-all Order entry.table.now entry.at Rows entry.frame refl refl refl refl
+    passes_all Order entry.table.now entry.at Rows entry.frame refl refl refl refl
     (eq-eqb (length_at entry.table.now entry.at) (2 * entry.frame.requests) (omega arith))
     (sym c.before.before.before.words-within.ensures ∙ not-false _ c.before.before.if2.false)
     (sym c.before.are-different.ensures ∙ not-false _ c.if3.false) refl

@@ -1,7 +1,7 @@
 -- `table::sequence::step` meets its contract.
 use Rattle.std.proofs.Common.{arith, rules}
 use Rattle.table.specs.declared.record.Phase.TheVariants.{Start, Rows, Ordered, Checked}
-use Rattle.table.proofs.Steps.{cut-head, cut-body, whole_step}
+use Rattle.table.proofs.Steps.{cut_head, cut_body, whole_step}
 use Rattle.table.proofs.sequence.step.Statement.{statement}
 use Rattle.table.proofs.sequence.step.Tie as tie
 
@@ -11,7 +11,7 @@ sub-left c = search rules
 returns : tie.Need-returns
 returns c =
     let entry = c.before.before.args in
-    cut-head entry.table.now entry.at entry.state (omega arith)
+    cut_head entry.table.now entry.at entry.state (omega arith)
 
 number-requires : tie.Need-number-requires
 number-requires c κs = search rules
@@ -19,7 +19,7 @@ number-requires c κs = search rules
 returns-2 : tie.Need-returns-2
 returns-2 c =
     let entry = c.before.before.before.before.args in
-    cut-body entry.table.now entry.at entry.state (omega arith)
+    cut_body entry.table.now entry.at entry.state (omega arith)
 
 enum_told : tie.Need-enum-told
 enum_told c = search rules
@@ -61,7 +61,7 @@ returns-5 : tie.Need-returns-5
 returns-5 c =
     let entry = c.before.before.before.before.before.before.before.before.args in
     whole_step entry.table.now entry.at entry.state Ordered
-    c.before.enum-told3.given.1 (omega arith) c.after-order.result c.after-order.ensures
+    c.before.enum-told3.given.1 (omega arith) c.after_order.result c.after_order.ensures
 
 returns-6 : tie.Need-returns-6
 returns-6 c =
