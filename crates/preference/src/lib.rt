@@ -1,4 +1,6 @@
 // Preferred conflicts and relaxations over any yes/no question. The theory is in specs/ and proofs/; what runs here is d, for the bound 2 + 2kd.
+#![tactic(auto)]
+
 ghost use Rattle.std.specs.Prelude.{◌<◌};
 ghost use Rattle.preference.specs.Depth.{Depth};
 

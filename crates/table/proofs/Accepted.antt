@@ -9,7 +9,7 @@ use Rattle.table.specs.declared.reading.Reading.TheVariants.{Accepted}
 use Rattle.table.specs.Words.{u16_at}
 use Rattle.table.specs.Lists.{all_different}
 use Rattle.table.specs.Kinds.{Kind, Head, Clause, Linear, Order, Check, Unknown, is_head, is_row}
-use Rattle.table.specs.Rows.{kind_at, length_at, after, row_of, rows, order_at}
+use Rattle.table.specs.Rows.{kind_at, length_at, after, row_of, order_at}
 use Rattle.table.specs.Limits.{most_bytes, most_variables, most_requests, most_rows, order_in_range}
 use Rattle.table.specs.Tests.{head_first, in_sequence, room_for_row, length_right, in_range, no_repeat, adds_to_zero, next_phase, next_frame}
 use Rattle.table.specs.Reading.{in_phase, step_at, ending_of, scan, beginning, reading, refused_at}

@@ -1,6 +1,8 @@
 // The table: every byte string is read, and is accepted with its frame or refused with the number and
 // the place that document 01 fixes. The definitions that the contracts cite stand in specs/; read
 // specs/Lib.antt first.
+#![tactic(auto)]
+
 pub mod body;
 mod check;
 pub mod limits;

@@ -1,0 +1,45 @@
+-- `table::rules::clause` meets its contract.
+use Rattle.std.proofs.Common.{sym, refl, ◌∙◌, arith, le-ltb, lt-ltb}
+use borrow.Author.Tests.{not-true, not-false}
+use Rattle.table.specs.declared.record.Phase.TheVariants.{Rows}
+use Rattle.table.specs.Kinds.{Clause, is_known, is_head}
+use Rattle.table.specs.Rows.{length_at}
+use Rattle.table.specs.Tests.{head_first, in_sequence, room_for_row, in_range, no_repeat, adds_to_zero, next_phase, next_frame}
+use Rattle.table.proofs.Lengths.{clause_short, clause_long, clause_odd, clause_right}
+use Rattle.table.proofs.WaysOut.{too_many_rows_lem, wrong_length_lem, out_of_range_lem, passes_all}
+use Rattle.table.proofs.rules.clause.Goals as goal
+
+pub returns-then-frame-ge-MOST_ROWS : goal.returns-then-frame-ge-MOST_ROWS
+unfolding is_known is_head head_first in_sequence room_for_row
+returns-then-frame-ge-MOST_ROWS c = too_many_rows_lem Clause c.args.table.now c.args.at Rows c.args.frame refl refl refl (le-ltb c.args.frame.rows 512 c.if-frame-ge-MOST_ROWS.true)
+
+pub returns-then-length-lt2 : goal.returns-then-length-lt2
+unfolding is_known is_head head_first in_sequence room_for_row
+returns-then-length-lt2 c = wrong_length_lem Clause c.args.table.now c.args.at Rows c.args.frame refl refl refl
+    (lt-ltb c.args.frame.rows 512 c.if-frame-ge-MOST_ROWS.false)
+    (clause_short c.args.frame.requests (length_at c.args.table.now c.args.at) (omega arith))
+
+pub returns-then-length : goal.returns-then-length
+unfolding is_known is_head head_first in_sequence room_for_row
+returns-then-length c = wrong_length_lem Clause c.args.table.now c.args.at Rows c.args.frame refl refl refl
+    (lt-ltb c.args.frame.rows 512 c.if-frame-ge-MOST_ROWS.false)
+    (clause_long c.args.frame.requests (length_at c.args.table.now c.args.at) (omega arith))
+
+pub returns-then-length-ne0 : goal.returns-then-length-ne0
+unfolding is_known is_head head_first in_sequence room_for_row
+returns-then-length-ne0 c = wrong_length_lem Clause c.args.table.now c.args.at Rows c.args.frame refl refl refl
+    (lt-ltb c.args.frame.rows 512 c.if-frame-ge-MOST_ROWS.false)
+    (clause_odd c.args.frame.requests (length_at c.args.table.now c.args.at) (omega arith))
+
+pub returns-then-not-clause_in_range : goal.returns-then-not-clause_in_range
+unfolding is_known is_head head_first in_sequence room_for_row in_range
+returns-then-not-clause_in_range c = out_of_range_lem Clause c.args.table.now c.args.at Rows c.args.frame refl refl refl (lt-ltb c.args.frame.rows 512 c.if-frame-ge-MOST_ROWS.false)
+    (clause_right c.args.frame.requests (length_at c.args.table.now c.args.at) (omega arith) (omega arith) (omega arith))
+    (sym c.clause_in_range.ensures ∙ not-true _ c.if-not-clause_in_range.true-raw)
+
+pub returns : goal.returns
+unfolding is_known is_head head_first in_sequence room_for_row in_range no_repeat adds_to_zero next_phase next_frame
+returns c = c.rows_so_far.ensures
+    ∙ passes_all Clause c.args.table.now c.args.at Rows c.args.frame refl refl refl (lt-ltb c.args.frame.rows 512 c.if-frame-ge-MOST_ROWS.false)
+    (clause_right c.args.frame.requests (length_at c.args.table.now c.args.at) (omega arith) (omega arith) (omega arith))
+    (sym c.clause_in_range.ensures ∙ not-false _ c.if-not-clause_in_range.false-raw) refl refl

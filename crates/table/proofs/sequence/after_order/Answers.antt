@@ -1,0 +1,33 @@
+-- `table::sequence::after_order` meets its contract.
+use Rattle.std.proofs.Common.{◌≡◌, refl, arith}
+use Rattle.table.specs.declared.record.Phase.TheVariants.{Ordered}
+use Rattle.table.specs.Kinds.{Head, Unknown, kind_of, is_known, is_head}
+use Rattle.table.specs.Tests.{head_first}
+use Rattle.table.proofs.WaysOut.{unknown_kind_lem, no_head_lem, out_of_sequence_lem}
+use Rattle.table.proofs.KindNumbers.{above_five, later_known, later_no_head, only_check_after_order}
+use Rattle.table.proofs.sequence.after_order.Goals as goal
+
+pub returns-in-1 : goal.returns-in-1
+unfolding kind_of is_known head_first is_head
+returns-in-1 c = rw (← c.word-kind.ensures.0, c.in-1.is) (no_head_lem Head c.args.table.now c.args.at Ordered c.args.frame refl refl)
+
+pub returns-in-5 : goal.returns-in-5
+unfolding kind_of
+returns-in-5 c = rw (← c.word-kind.ensures.0, c.in-5.is) c.check.ensures
+
+pub returns-in-2-to-4 : goal.returns-in-2-to-4
+unfolding head_first
+returns-in-2-to-4 c = rw (← c.word-kind.ensures.0)
+    (out_of_sequence_lem (kind_of c.word-kind.result) c.args.table.now c.args.at Ordered c.args.frame
+    (later_known c.word-kind.result (omega arith) (omega arith))
+    (rw (later_no_head c.word-kind.result (omega arith) (omega arith)))
+    (only_check_after_order c.word-kind.result (omega arith) (omega arith)))
+
+pub returns-in-0 : goal.returns-in-0
+unfolding kind_of is_known
+returns-in-0 c = let e : c.word-kind.result ≡ 0 = omega arith in rw (← c.word-kind.ensures.0, e) (unknown_kind_lem Unknown c.args.table.now c.args.at Ordered c.args.frame refl)
+
+pub returns-in-0-2 : goal.returns-in-0-2
+unfolding is_known
+returns-in-0-2 c = rw (← c.word-kind.ensures.0, above_five c.word-kind.result (omega arith))
+    (unknown_kind_lem Unknown c.args.table.now c.args.at Ordered c.args.frame refl)
