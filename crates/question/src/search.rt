@@ -11,7 +11,6 @@ ghost use Rattle.question.specs.Trail.{TrailRoom};
 use crate::looking::{Seen, look};
 use crate::places::note_places;
 use crate::trail::{take_back, turn};
-use bytes::copy;
 use choice::notes::{MOST_NOTES, blind_of};
 use meaning::half_made::UNDECIDED;
 use table::limits::{MOST_ROWS, MOST_VARIABLES};
@@ -76,7 +75,7 @@ pub fn can_complete(
     let mut waiting = [0; MOST_VARIABLES];
     let entries = values.len();
     let mut work = [UNDECIDED; MOST_VARIABLES];
-    copy(values, &mut work);
+    work[..entries].copy_from_slice(values);
     complete(
         table,
         places,

@@ -1,4 +1,6 @@
 // The report: one record that tells a method's answer, written into a lent part of a buffer (document 01, "The report").
+#![tactic(auto)]
+
 ghost use Rattle.std.specs.Prelude.{◌≡◌, ◌≤◌, length};
 ghost use Rattle.std.proofs.lemmas.List.Edits.{sets};
 ghost use Rattle.report.specs.Written.{Room, Written, head_bytes, most_numbers};

@@ -1,0 +1,12 @@
+use Rattle.std.proofs.Common.{◌≡◌, ◌+◌, ◌*◌, length, refl, arith}
+use Rattle.choice.proofs.scores.score_literals.Reads as reads
+use Rattle.choice.proofs.scores.score_literals.Lts as lts
+use Rattle.choice.proofs.notes.add_score.Reads as add-score-reads
+use Rattle.table.proofs.words.number.Reads as number-reads
+use Rattle.choice.proofs.scores.score_literals.Given as goal
+
+abbrev pub invariant-loop-left : goal.invariant-loop-left
+invariant-loop-left l = (l.at + 2 * l.left ≡ l.from + 2 * l.count) × (length l.notes ≡ length l.initial.notes)
+
+abbrev pub decreases-loop-left : goal.decreases-loop-left
+decreases-loop-left l = l.left

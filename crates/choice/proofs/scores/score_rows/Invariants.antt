@@ -1,0 +1,11 @@
+use Rattle.std.proofs.Common.{◌≡◌, ◌-◌, length, refl, arith}
+use Rattle.choice.proofs.scores.score_rows.Reads as reads
+use Rattle.choice.proofs.scores.score_rows.Lts as lts
+use Rattle.choice.proofs.scores.score_row.Reads as score-row-reads
+use Rattle.choice.proofs.scores.score_rows.Given as goal
+
+abbrev pub invariant-loop-next : goal.invariant-loop-next
+invariant-loop-next l = length l.notes ≡ length l.initial.notes
+
+abbrev pub decreases-loop-next : goal.decreases-loop-next
+decreases-loop-next l = l.count - l.next
