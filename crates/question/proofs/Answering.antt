@@ -5,7 +5,7 @@ use mathlib.Core.Bool.{Bool, true, false}
 use mathlib.Core.List.{List, ◌++◌}
 use native.Mathlib.Omega.{arith}
 use lib.ListN.{length, get_or, take}
-use lib.Seq.{get_or-take, length-take-le, take-length, take-append_seam}
+use lib.Seq.{get_or-take, length-take-le, take-append_seam}
 use Rattle.table.specs.declared.record.Frame.{Frame}
 use Rattle.table.specs.Lists.{every}
 use Rattle.table.specs.Rows.{row_at}
@@ -22,8 +22,8 @@ use Rattle.question.proofs.Noting.{every_counting}
 use Rattle.question.proofs.Seeing.{passing_too}
 
 -- the search works on a copy of the values
-pub copied : (values work rest : Values) → work ≡ take (length values) values ++ rest → take (length values) work ≡ values
-copied values work rest e = rw (e, take-length values) (take-append_seam values rest)
+pub copied : (values copy rest : Values) → copy ≡ values → take (length values) (copy ++ rest) ≡ values
+copied values copy rest e = rw e (take-append_seam values rest)
 
 -- a search over the places of the rows that count is one over these rows
 module _ (t : List ℕ) (f : Frame) (chosen : List Bool) (places : List ℕ) (noted : ℕ) (counting : Noted (by_role chosen) f.rows t places noted) where

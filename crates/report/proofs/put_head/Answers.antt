@@ -1,10 +1,9 @@
 -- Five numbers stored one after the other are the head.
 use Rattle.report.proofs.Stores.{five_numbers}
-use borrow.Author.Rules.{rules}
 use Rattle.report.proofs.put_head.Goals as goal
 
 pub returns : goal.returns
-returns c =     let entry =
+returns c = let entry =
     c.args in
     let put-u16 =
     c.put_u16 in

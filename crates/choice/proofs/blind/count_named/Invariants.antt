@@ -1,7 +1,4 @@
-use Rattle.std.proofs.Common.{◌-◌, ◌≤◌, length, arith}
-use Rattle.choice.proofs.blind.count_named.Reads as reads
-use Rattle.choice.proofs.blind.count_named.Lts as lts
-use Rattle.choice.proofs.blind.one_if_named.Reads as one-if-named-reads
+use Rattle.std.proofs.Common.{◌-◌, ◌≤◌, length}
 use Rattle.choice.proofs.blind.count_named.Given as goal
 
 abbrev pub invariant-loop-next : goal.invariant-loop-next

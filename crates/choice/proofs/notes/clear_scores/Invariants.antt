@@ -1,7 +1,4 @@
-use Rattle.std.proofs.Common.{◌≡◌, ◌-◌, length, refl, arith}
-use Rattle.choice.proofs.notes.clear_scores.Reads as reads
-use Rattle.choice.proofs.notes.clear_scores.Lts as lts
-use Rattle.choice.proofs.notes.set_note.Reads as set-note-reads
+use Rattle.std.proofs.Common.{◌≡◌, ◌-◌, length}
 use Rattle.choice.proofs.notes.clear_scores.Given as goal
 
 abbrev pub invariant-loop-next : goal.invariant-loop-next

@@ -1,8 +1,4 @@
-use Rattle.std.proofs.Common.{◌≡◌, ◌+◌, ◌*◌, ◌≤◌, arith}
-use Rattle.choice.proofs.scores.count_undecided.Reads as reads
-use Rattle.choice.proofs.scores.count_undecided.Lts as lts
-use Rattle.choice.proofs.scores.one_if_undecided.Reads as one-if-undecided-reads
-use Rattle.table.proofs.words.number.Reads as number-reads
+use Rattle.std.proofs.Common.{◌≡◌, ◌+◌, ◌*◌, ◌≤◌}
 use Rattle.choice.proofs.scores.count_undecided.Given as goal
 
 abbrev pub invariant-loop-left : goal.invariant-loop-left

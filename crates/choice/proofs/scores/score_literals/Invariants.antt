@@ -1,8 +1,4 @@
-use Rattle.std.proofs.Common.{◌≡◌, ◌+◌, ◌*◌, length, refl, arith}
-use Rattle.choice.proofs.scores.score_literals.Reads as reads
-use Rattle.choice.proofs.scores.score_literals.Lts as lts
-use Rattle.choice.proofs.notes.add_score.Reads as add-score-reads
-use Rattle.table.proofs.words.number.Reads as number-reads
+use Rattle.std.proofs.Common.{◌≡◌, ◌+◌, ◌*◌, length}
 use Rattle.choice.proofs.scores.score_literals.Given as goal
 
 abbrev pub invariant-loop-left : goal.invariant-loop-left

@@ -1,7 +1,4 @@
-use Rattle.std.proofs.Common.{◌≡◌, ◌-◌, length, refl, arith}
-use Rattle.choice.proofs.scores.score_rows.Reads as reads
-use Rattle.choice.proofs.scores.score_rows.Lts as lts
-use Rattle.choice.proofs.scores.score_row.Reads as score-row-reads
+use Rattle.std.proofs.Common.{◌≡◌, ◌-◌, length}
 use Rattle.choice.proofs.scores.score_rows.Given as goal
 
 abbrev pub invariant-loop-next : goal.invariant-loop-next

@@ -1,7 +1,4 @@
-use Rattle.std.proofs.Common.{◌≡◌, ◌+◌, ◌*◌, length, refl, arith}
-use Rattle.choice.proofs.scores.score_terms.Reads as reads
-use Rattle.choice.proofs.scores.score_terms.Lts as lts
-use Rattle.choice.proofs.scores.score_term.Reads as score-term-reads
+use Rattle.std.proofs.Common.{◌≡◌, ◌+◌, ◌*◌, length}
 use Rattle.choice.proofs.scores.score_terms.Given as goal
 
 abbrev pub invariant-loop-left : goal.invariant-loop-left

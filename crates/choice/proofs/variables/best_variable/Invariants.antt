@@ -1,9 +1,5 @@
 use Rattle.choice.specs.Chosen.{Chosen}
-use Rattle.choice.proofs.BestVariable.{none_chosen, chosen_all}
-use Rattle.std.proofs.Common.{◌-◌, ◌≤◌, length, arith}
-use Rattle.choice.proofs.variables.best_variable.Reads as reads
-use Rattle.choice.proofs.variables.best_variable.Lts as lts
-use Rattle.choice.proofs.variables.better.Reads as better-reads
+use Rattle.std.proofs.Common.{◌-◌, ◌≤◌, length}
 use Rattle.choice.proofs.variables.best_variable.Given as goal
 
 abbrev pub invariant-loop-next : goal.invariant-loop-next

@@ -1,6 +1,5 @@
 -- Two stores are a u16, low byte first.
 use Rattle.report.proofs.Stores.{two_bytes}
-use borrow.Author.Rules.{rules}
 use Rattle.report.proofs.bytes.put_u16.Goals as goal
 
 pub returns : goal.returns

@@ -1,6 +1,5 @@
 -- A chosen request is stored and counted; another leaves the part as it was.
 use Rattle.report.proofs.Chosen.{chosen_stored, unchosen_left}
-use borrow.Author.Rules.{rules}
 use Rattle.report.proofs.numbers.put_chosen.Goals as goal
 
 pub returns-then-chosen : goal.returns-then-chosen

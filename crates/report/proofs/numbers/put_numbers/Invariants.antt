@@ -1,9 +1,7 @@
 -- The invariant says where the loop stands: storing the rest from here on gives what storing all would have given.
-use Rattle.report.proofs.Chosen.{Progress, progress_starts, progress_turn, progress_ends}
-use native.Mathlib.Omega.{arith}
+use Rattle.report.proofs.Chosen.{Progress}
 use Prim.Native.Nat.{◌-◌, ◌≤◌}
 use lib.ListN.{length}
-use borrow.Author.Rules.{rules}
 use Rattle.report.proofs.numbers.put_numbers.Given as goal
 
 abbrev pub invariant-loop-i : goal.invariant-loop-i
