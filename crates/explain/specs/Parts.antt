@@ -1,5 +1,5 @@
 -- What working a part of the requests in place must give: the part's definition in the crate `preference`.
-use Rattle.std.specs.Prelude.{ℕ, ◌+◌, ◌*◌, ◌<◌, ◌≤◌, ◌≡◌, Bool, true, false, ◌&&◌, ◌++◌, length}
+use Rattle.std.specs.Prelude.{ℕ, ◌*◌, ◌<◌, ◌≤◌, ◌≡◌, Bool, true, false, ◌&&◌, ◌++◌, length}
 use Rattle.preference.specs.Selection.{Selection, all, none}
 use Rattle.preference.specs.Question.{Question}
 use Rattle.preference.specs.Part.{Part}

@@ -13,7 +13,7 @@ use table::limits::{MOST_REQUESTS, MOST_ROWS};
 use table::record::Frame;
 
 // Conflict or relaxation, by halving or one by one.
-#[derive(Drop)]
+#[derive(Clone, Copy)]
 pub enum Method {
     ConflictByHalving,
     ConflictOneByOne,

@@ -10,7 +10,7 @@ pub enum Phase {
 }
 
 // What is known of a table: V, N, the number of its rows, and the place of its ORDER record.
-#[derive(Drop)]
+#[derive(Clone, Copy)]
 pub struct Frame {
     pub variables: usize,
     pub requests: usize,
