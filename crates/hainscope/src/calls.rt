@@ -15,8 +15,7 @@ use table::record::Frame;
 const NAMES_TOO_MUCH: u32 = 11;
 
 // Reads a table: 0 and place 0 where it is accepted, else the refusal's number and place.
-#[unsafe(no_mangle)]
-pub extern "C" fn hainscope_read(table: &[u8], place: &mut usize) -> u32
+pub fn hainscope_read(table: &[u8], place: &mut usize) -> u32
     ensures { ReadCall table.now result place.new }
 {
     let told = read(table);
@@ -34,13 +33,7 @@ pub extern "C" fn hainscope_read(table: &[u8], place: &mut usize) -> u32
 
 // Finds the body of the record of a number, the first being 0: 0, the place of its first byte and its length, or
 // the refusal's number and place with length 0.
-#[unsafe(no_mangle)]
-pub extern "C" fn hainscope_body(
-    table: &[u8],
-    number: usize,
-    length: &mut usize,
-    place: &mut usize,
-) -> u32
+pub fn hainscope_body(table: &[u8], number: usize, length: &mut usize, place: &mut usize) -> u32
     ensures { BodyCall table.now number result length.new place.new }
 {
     let found = find_body(table, number);
@@ -85,13 +78,7 @@ fn can_stand_accepted(table: &[u8], frame: Frame, selection: u64, stands: &mut u
 }
 
 // Whether the selection can stand: 1 or 0 in `stands`, and 0 there where the call is refused.
-#[unsafe(no_mangle)]
-pub extern "C" fn hainscope_can_stand(
-    table: &[u8],
-    selection: u64,
-    stands: &mut u32,
-    place: &mut usize,
-) -> u32
+pub fn hainscope_can_stand(table: &[u8], selection: u64, stands: &mut u32, place: &mut usize) -> u32
     ensures { CanStandCall table.now selection result stands.new place.new }
 {
     let told = read(table);
@@ -110,13 +97,7 @@ pub extern "C" fn hainscope_can_stand(
 
 // The preferred conflict, by halving, as a report in the buffer from the start on; the place after it. Refused: the
 // buffer as it was.
-#[unsafe(no_mangle)]
-pub extern "C" fn hainscope_conflict(
-    table: &[u8],
-    report: &mut [u8],
-    start: usize,
-    place: &mut usize,
-) -> u32
+pub fn hainscope_conflict(table: &[u8], report: &mut [u8], start: usize, place: &mut usize) -> u32
     ensures { ReportCall ConflictByHalving table.now report.old start result place.new report.new }
 {
     make_report(Method::ConflictByHalving, table, report, start, place)
@@ -124,8 +105,7 @@ pub extern "C" fn hainscope_conflict(
 
 // The preferred conflict, one by one, as a report in the buffer from the start on; the place after it. Refused: the
 // buffer as it was.
-#[unsafe(no_mangle)]
-pub extern "C" fn hainscope_conflict_one_by_one(
+pub fn hainscope_conflict_one_by_one(
     table: &[u8],
     report: &mut [u8],
     start: usize,
@@ -138,13 +118,7 @@ pub extern "C" fn hainscope_conflict_one_by_one(
 
 // The preferred relaxation, by halving, as a report in the buffer from the start on; the place after it. Refused: the
 // buffer as it was.
-#[unsafe(no_mangle)]
-pub extern "C" fn hainscope_relaxation(
-    table: &[u8],
-    report: &mut [u8],
-    start: usize,
-    place: &mut usize,
-) -> u32
+pub fn hainscope_relaxation(table: &[u8], report: &mut [u8], start: usize, place: &mut usize) -> u32
     ensures { ReportCall RelaxationByHalving table.now report.old start result place.new report.new }
 {
     make_report(Method::RelaxationByHalving, table, report, start, place)
@@ -152,8 +126,7 @@ pub extern "C" fn hainscope_relaxation(
 
 // The preferred relaxation, one by one, as a report in the buffer from the start on; the place after it. Refused: the
 // buffer as it was.
-#[unsafe(no_mangle)]
-pub extern "C" fn hainscope_relaxation_one_by_one(
+pub fn hainscope_relaxation_one_by_one(
     table: &[u8],
     report: &mut [u8],
     start: usize,

@@ -1,83 +1,93 @@
 // The program: a table on standard input, and on standard output the preferred conflict and the preferred
 // relaxation, a line each, or one line with the table's refusal (document 01, "The program prints"). Where the input
 // cannot be read it prints nothing, and says so on standard error.
+#![tactic(auto)]
+
+ghost use Rattle.std.specs.Prelude.{◌≤◌, IfOk, length};
+
 use hainscope::calls::{hainscope_conflict, hainscope_relaxation};
-use libc::{STDERR_FILENO, STDIN_FILENO, STDOUT_FILENO};
+use std::io;
+use std::io::Read;
 use table::limits::{MOST_BYTES, MOST_REQUESTS};
 use table::words::number;
 
 const LONGEST_REPORT: usize = 12 + 2 * MOST_REQUESTS;
 
 // Writes a space and a number.
-fn print_number(n: usize) {
-    io::write_all(STDOUT_FILENO, b" ");
-    io::print_decimal(STDOUT_FILENO, n as u64);
+fn print_number(rt: &HostRuntime, n: usize) -> io::Result<()> {
+    rt.write_all(b" ")?;
+    rt.print(n)
 }
 
 // Writes the words of a report from `from` on, up to `end` and no further than the report reaches.
-fn print_words(report: &[u8], from: usize, end: usize) {
+fn print_words(rt: &HostRuntime, report: &[u8], from: usize, end: usize) -> io::Result<()> {
     let mut at = from;
     while at < end {
         if report.len() < 2 {
-            return;
+            return Ok(());
         }
         if report.len() - 2 < at {
-            return;
+            return Ok(());
         }
-        print_number(number(report, at));
+        print_number(rt, number(report, at))?;
         at = at + 2;
     }
+    Ok(())
 }
 
 // Writes a report that ends at `end` as a line: the name, status, count, k and the k request numbers. The count
 // stands as a u32 in the report; it is at most 130, so that its upper half is 0 and not written.
-fn print_report(name: &[u8], report: &[u8], end: usize) {
-    io::write_all(STDOUT_FILENO, name);
-    print_words(report, 4, 8);
-    print_words(report, 10, end);
-    io::write_all(STDOUT_FILENO, b"\n");
+fn print_report(rt: &HostRuntime, name: &[u8], report: &[u8], end: usize) -> io::Result<()> {
+    rt.write_all(name)?;
+    print_words(rt, report, 4, 8)?;
+    print_words(rt, report, 10, end)?;
+    rt.write_all(b"\n")
 }
 
 // Writes a refusal as a line.
-fn print_refusal(refusal: u32, place: usize) {
-    io::write_all(STDOUT_FILENO, b"refused");
-    print_number(refusal as usize);
-    print_number(place);
-    io::write_all(STDOUT_FILENO, b"\n");
+fn print_refusal(rt: &HostRuntime, refusal: u32, place: usize) -> io::Result<()> {
+    rt.write_all(b"refused")?;
+    print_number(rt, refusal as usize)?;
+    print_number(rt, place)?;
+    rt.write_all(b"\n")
 }
 
 // Writes what is to be said of a table.
-fn explain(table: &[u8]) {
+fn explain(rt: &HostRuntime, table: &[u8]) -> io::Result<()> {
     let mut report = [0u8; LONGEST_REPORT];
     let mut place: usize = 0;
     let refusal = hainscope_conflict(table, &mut report, 0, &mut place);
     if refusal != 0 {
-        print_refusal(refusal, place);
-        return;
+        return print_refusal(rt, refusal, place);
     }
-    print_report(b"conflict", &report, place);
+    print_report(rt, b"conflict", &report, place)?;
     hainscope_relaxation(table, &mut report, 0, &mut place);
-    print_report(b"relax", &report, place);
+    print_report(rt, b"relax", &report, place)
 }
 
-// Whether standard input has ended, and did not fail: a further read gives nothing.
-fn has_ended() -> bool {
-    let mut more = [0u8; 1];
-    libc::read(STDIN_FILENO, &mut more) == 0
+// Reads from the reader until it has ended or the bytes are full, and returns how many came.
+fn read_full<R: Read>(reader: &mut R, bytes: &mut [u8]) -> io::Result<usize>
+    ensures { IfOk result (λ came. came ≤ length bytes.old) }
+{
+    let mut came = 0;
+    while came < bytes.len() {
+        let more = reader.read(&mut bytes[came..])?;
+        if more == 0 {
+            return Ok(came);
+        }
+        came = came + more;
+    }
+    Ok(came)
 }
 
 // A table of more bytes than any may have is refused as one byte too long; an input that cannot be read is no
 // table, and gets no answer.
-fn main() {
+fn main(rt: HostRuntime) -> io::Result<()> {
     let mut input = [0u8; MOST_BYTES + 1];
-    let got = io::read_full(STDIN_FILENO, &mut input);
-    if MOST_BYTES < got {
-        explain(&input);
-        return;
-    }
-    if has_ended() {
-        explain(&input[..got]);
-    } else {
-        io::write_all(STDERR_FILENO, b"hainscope: the input cannot be read\n");
+    match read_full(&mut rt.reader(), &mut input) {
+        Ok(came) => explain(&rt, &input[..came]),
+        Err(_) => rt
+            .stderr()
+            .write_all(b"hainscope: the input cannot be read\n"),
     }
 }

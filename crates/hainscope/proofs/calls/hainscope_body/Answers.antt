@@ -1,11 +1,10 @@
 -- `hainscope::calls::hainscope_body` meets its contract.
 use mathlib.Core.Path.{sym, ◌∙◌}
 use Rattle.hainscope.proofs.TableCalls.{body_found, body_missing}
-use borrow.Author.Rules.{rules}
 use Rattle.hainscope.proofs.calls.hainscope_body.Goals as goal
 
 pub returns-in-Found : goal.returns-in-Found
-returns-in-Found c =     body_found c.args.table.now c.args.number _ _ (sym c.find_body-found.ensures ∙ c.in-Found.is)
+returns-in-Found c = body_found c.args.table.now c.args.number _ _ (sym c.find_body-found.ensures ∙ c.in-Found.is)
 
 pub returns-in-Missing : goal.returns-in-Missing
-returns-in-Missing c =     body_missing c.args.table.now c.args.number _ (sym c.find_body-found.ensures ∙ c.in-Missing.is)
+returns-in-Missing c = body_missing c.args.table.now c.args.number _ (sym c.find_body-found.ensures ∙ c.in-Missing.is)

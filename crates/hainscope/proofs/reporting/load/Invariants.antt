@@ -1,13 +1,9 @@
 -- `hainscope::reporting::load` meets its contract.
-use native.Mathlib.Omega.{arith}
-use mathlib.Core.Path.{◌≡◌, refl, ◌∙◌}
+use mathlib.Core.Path.{◌≡◌}
 use Prim.Native.Nat.{◌+◌, ◌*◌}
-use borrow.Author.Rules.{rules}
-use Prim.Native.Nat.{◌-◌}
-use lib.ListN.{length, length-set}
+use lib.ListN.{length}
 use lib.Seq.{sets}
 use Rattle.table.specs.Words.{words}
-use Rattle.hainscope.proofs.Writing.{load_turn, load_done}
 use Rattle.hainscope.proofs.reporting.load.Given as goal
 
 abbrev pub invariant-loop-left : goal.invariant-loop-left

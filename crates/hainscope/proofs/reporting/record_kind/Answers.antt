@@ -1,6 +1,5 @@
 -- `hainscope::reporting::record_kind` meets its contract.
 use Rattle.promises.specs.Reports.{kind_by}
-use borrow.Author.Rules.{rules}
 use Rattle.hainscope.proofs.reporting.record_kind.Goals as goal
 
 pub returns-in-ConflictByHalving : goal.returns-in-ConflictByHalving

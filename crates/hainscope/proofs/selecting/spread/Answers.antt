@@ -1,11 +1,7 @@
 -- `hainscope::selecting::spread` meets its contract.
 use native.Mathlib.Omega.{arith}
-use mathlib.Core.Path.{◌≡◌, refl, ◌∙◌}
-use Prim.Native.Nat.{◌+◌}
-use Prim.Native.Nat.{◌-◌}
-use lib.ListN.{length, length-set}
-use lib.Seq.{sets}
-use Rattle.promises.specs.Selecting.{bits, above}
+use mathlib.Core.Path.{◌∙◌}
+use lib.ListN.{length-set}
 use Rattle.hainscope.proofs.Spreading.{bits_turn, above_turn, spread_done}
 use Rattle.hainscope.proofs.selecting.spread.Goals as goal
 
@@ -19,5 +15,5 @@ loop-left-preserved c = (
 )
 
 pub returns : goal.returns
-returns c =     spread_done c.loop-left.left c.loop-left.rest c.loop-left.request c.loop-left.chosen c.args.chosen.now
+returns c = spread_done c.loop-left.left c.loop-left.rest c.loop-left.request c.loop-left.chosen c.args.chosen.now
     c.args.selection c.loop-left-test.false c.requires c.loop-left.invariant.2 c.loop-left.invariant.3

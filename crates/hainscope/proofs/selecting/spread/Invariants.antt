@@ -1,12 +1,10 @@
 -- `hainscope::selecting::spread` meets its contract.
-use native.Mathlib.Omega.{arith}
-use mathlib.Core.Path.{◌≡◌, refl, ◌∙◌}
+use mathlib.Core.Path.{◌≡◌}
 use Prim.Native.Nat.{◌+◌}
 use Prim.Native.Nat.{◌-◌}
-use lib.ListN.{length, length-set}
+use lib.ListN.{length}
 use lib.Seq.{sets}
 use Rattle.promises.specs.Selecting.{bits, above}
-use Rattle.hainscope.proofs.Spreading.{bits_turn, above_turn, spread_done}
 use Rattle.hainscope.proofs.selecting.spread.Given as goal
 
 abbrev pub invariant-loop-left : goal.invariant-loop-left
