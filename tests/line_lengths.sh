@@ -7,7 +7,7 @@ cd "$(dirname "$0")/.." || exit 2
 
 # long_lines CRATE: prints FILE:LINE of each line that is longer
 long_lines() {
-    LC_ALL=C.UTF-8 grep -rnE '^.{161,}$' --include='*.antt' --include='*.rt' "$1" | cut -d: -f1,2
+    LC_ALL=C.UTF-8 grep -rnE '^.{161,}$' --include='*.antt' --include='*.rt' --exclude-dir=out "$1" | cut -d: -f1,2
 }
 
 for crate in crates/*; do

@@ -44,7 +44,9 @@ swap false true c = refl
 swap false false c = refl
 
 set_reads :
-    (chosen : List Bool) (request role : ℕ) → request < length chosen → get_or (set chosen request true) role false ≡ (eqb role request || get_or chosen role false)
+    (chosen : List Bool) (request role : ℕ) →
+    request < length chosen →
+    get_or (set chosen request true) role false ≡ (eqb role request || get_or chosen role false)
 set_reads chosen request role h = by (eqb role request) refl
   where
     by : (same : Bool) → eqb role request ≡ same → get_or (set chosen request true) role false ≡ (eqb role request || get_or chosen role false)

@@ -36,7 +36,8 @@ module _ (t : List ℕ) where
 module _ (t : List ℕ) (f : Frame) (selection : ℕ) where
   -- the two ways out of asking about a selection
   pub told_too_much :
-      NamesTooMuch ≡ verdict_of t f selection → (names_too_much ≡ number_of_verdict (verdict_of t f selection)) × (0 ≡ stands_of_verdict (verdict_of t f selection))
+      NamesTooMuch ≡ verdict_of t f selection →
+      (names_too_much ≡ number_of_verdict (verdict_of t f selection)) × (0 ≡ stands_of_verdict (verdict_of t f selection))
   unfolding number_of_verdict stands_of_verdict
   told_too_much e = (rw (← e), rw (← e))
 

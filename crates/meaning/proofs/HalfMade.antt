@@ -64,7 +64,8 @@ free_agrees values setting h free = record { each = h; decided = λ variable dec
         rw (get_or-eq_default values 0 {n = variable} above) (get_or-eq_default setting false {n = variable} (omega arith))
 
 -- a list of which no entry is decided
-pub all_free : (most v : ℕ) → v ≤ most → (other : ℕ) → other < length (take v (replicate {A = ℕ} most 2)) → get_or (take v (replicate {A = ℕ} most 2)) other 0 ≡ 2
+pub all_free :
+    (most v : ℕ) → v ≤ most → (other : ℕ) → other < length (take v (replicate {A = ℕ} most 2)) → get_or (take v (replicate {A = ℕ} most 2)) other 0 ≡ 2
 all_free most v h other below =
     let long : length (take v (replicate {A = ℕ} most 2)) ≡ v = length-take-le v (replicate {A = ℕ} most 2) (omega (arith, length-replicate {A = ℕ} most 2)) in
     rw (get_or-take v (replicate {A = ℕ} most 2) other 0 (omega arith)) (get_or-replicate {A = ℕ} most other 2 0 (omega arith))

@@ -11,7 +11,8 @@ use borrow.Author.Tests.{le-leb}
 use Rattle.table.specs.Rows.{Term, Row, clause, linear}
 use Rattle.meaning.specs.Meaning.{Setting, is_one, is_true, value_of, product, sum_of, meets}
 use Rattle.meaning.specs.HalfMade.{Values, is_free, is_set, Agrees}
-use Rattle.meaning.specs.States.{is_decided_true, may_be_true, must_be_true, negative_of, positive_of, at_end, sum_at_end, clause_state, linear_state, row_state}
+use Rattle.meaning.specs.States.{is_decided_true, may_be_true, must_be_true, negative_of, positive_of}
+use Rattle.meaning.specs.States.{at_end, sum_at_end, clause_state, linear_state, row_state}
 use Rattle.meaning.proofs.Differences.{same_le, le-le, sums-le}
 use Rattle.meaning.proofs.Tested.{any_more}
 use Rattle.meaning.proofs.States.{never_holds, always_holds, otherwise_holds}

@@ -73,7 +73,8 @@ module _ (ok : Question) (n : ℕ) where
       (λ h z g. omega arith) (λ h p g. omega arith) (λ h p g. omega (arith, relaxation_asks_at_most ok (middle n) d (middle_is_deep d n deep)))
 
   -- the same with d read from the list
-  pub halving_relaxation_count_by_the_list : n ≤ 64 → (relaxation_by_halving ok n).asked ≤ 2 + 2 * (dropped (relaxation_by_halving ok n).set * get_or depths n 0)
+  pub halving_relaxation_count_by_the_list :
+      n ≤ 64 → (relaxation_by_halving ok n).asked ≤ 2 + 2 * (dropped (relaxation_by_halving ok n).set * get_or depths n 0)
   halving_relaxation_count_by_the_list h = halving_relaxation_count (get_or depths n 0) (depths_keep_their_rule n h).enough
 
   -- with no relaxation it asks at most 2

@@ -33,8 +33,10 @@ sheet_holds = record { rows = refl; damaged = refl }
 -- three reports of the sheet as bytes in a lent buffer
 pub reports_hold : ReportsHold
 unfolding u16_at u32_at i32_at words total every among all_different kind_of is_known is_head term_at terms clause_at linear_at row_of rows within term_in_range
-    row_in_range is_whole head_first in_sequence room_for_row length_right in_range no_repeat adds_to_zero next_phase next_frame rule_of step_at ending_of scan reading is_true
-    any_of value_of product sum_of meets role_of counts respects meets_all some_setting stands all none named entered one_conflict one_relax size tree_of halve_conflict
+    row_in_range is_whole head_first in_sequence room_for_row length_right in_range
+    no_repeat adds_to_zero next_phase next_frame rule_of step_at ending_of scan reading is_true
+    any_of value_of product sum_of meets role_of counts respects meets_all some_setting
+    stands all none named entered one_conflict one_relax size tree_of halve_conflict
     enter_conflict halve_relax enter_relax answered chosen_by question_of answer_by u16 u32 record_of encode_numbers report_body report_bytes kind_by room_for
 reports_hold =
     record {

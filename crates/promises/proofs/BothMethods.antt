@@ -29,7 +29,8 @@ use Rattle.promises.proofs.DemandsHold.{right_answer_is_the_methods}
 module _ (kind status count count' start : ℕ) (numbers front rest : List ℕ) (long : length front ≡ start) where
   -- a report with another count is the same before it
   same_first_bytes :
-      take (start + 6) (front ++ (report_bytes kind status count numbers ++ rest)) ≡ take (start + 6) (front ++ (report_bytes kind status count' numbers ++ rest))
+      take (start + 6) (front ++ (report_bytes kind status count numbers ++ rest))
+      ≡ take (start + 6) (front ++ (report_bytes kind status count' numbers ++ rest))
   unfolding report_bytes record_of report_body u16 u32
   same_first_bytes = rw (← long, take-append-add, take-append-add)
 

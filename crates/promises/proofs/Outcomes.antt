@@ -121,7 +121,8 @@ module _ (method : Method) (t buffer : List ℕ) (start : ℕ) where
           refused = λ r g. not_both e g;
           no_room = λ other g h. clash (rw (one_frame e g) at room) h;
           reported =
-              λ other g h. subst (λ (x : Frame). Reported method t x buffer start 0 (place_after t f start answer) (buffer_after method t f buffer start answer))
+              λ other g h.
+              subst (λ (x : Frame). Reported method t x buffer start 0 (place_after t f start answer) (buffer_after method t f buffer start answer))
               (one_frame e g) told;
         }
       where

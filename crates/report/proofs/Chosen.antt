@@ -34,7 +34,8 @@ pub named_turn : (order : List ℕ) (flags : Selection) (i : ℕ) → i < length
     named (drop i order) (drop i flags) ≡ named (get_or order i 0 ∷ []) (get_or flags i false ∷ []) ++ named (drop (i + 1) order) (drop (i + 1) flags)
 named_turn order flags i h e =
     let g : i < length flags = omega arith in
-    rw (add-one, drop-cons order i 0 h, drop-cons flags i false g) (named_cons (get_or order i 0) (drop (suc i) order) (get_or flags i false) (drop (suc i) flags))
+    rw (add-one, drop-cons order i 0 h, drop-cons flags i false g)
+    (named_cons (get_or order i 0) (drop (suc i) order) (get_or flags i false) (drop (suc i) flags))
 
 -- a request that is chosen: its number is stored
 pub chosen_stored : (number k : ℕ) (chosen : Bool) (before after : List ℕ) → chosen ≡ true → after ≡ sets before (12 + 2 * k) (u16 number) →

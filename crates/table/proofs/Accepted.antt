@@ -1,5 +1,6 @@
 -- What an accepted table keeps: the scan is taken apart record by record, from the end of the table to its start.
-use Rattle.std.proofs.Common.{◌≡◌, ℕ, zero, suc, ◌+◌, ◌-◌, ◌*◌, ◌<◌, ◌≤◌, Bool, true, false, ltb, leb, List, length, sym, refl, ◌∙◌, subst, arith, ltb-false, ltb-true, eqb-true, leb-true}
+use Rattle.std.proofs.Common.{◌≡◌, ℕ, zero, suc, ◌+◌, ◌-◌, ◌*◌, ◌<◌, ◌≤◌, Bool, true, false, ltb, leb, List}
+use Rattle.std.proofs.Common.{length, sym, refl, ◌∙◌, subst, arith, ltb-false, ltb-true, eqb-true, leb-true}
 use Rattle.table.specs.declared.record.Phase.TheVariants.{Start, Rows, Ordered, Checked}
 use Rattle.table.specs.declared.record.Frame.{Frame}
 use Rattle.table.specs.declared.record.State.{State}

@@ -1,5 +1,6 @@
 -- The walk from record to record that finds a body: it stays among whole records of an accepted table, and past its end it finds none.
-use Rattle.std.proofs.Common.{◌≡◌, ℕ, zero, suc, ◌+◌, ◌-◌, ◌<◌, ◌≤◌, Bool, true, false, ltb, List, [], length, take, drop, refl, ap, arith, ltb-true, le-ltb, lt-ltb}
+use Rattle.std.proofs.Common.{◌≡◌, ℕ, zero, suc, ◌+◌, ◌-◌, ◌<◌, ◌≤◌, Bool, true, false, ltb, List}
+use Rattle.std.proofs.Common.{[], length, take, drop, refl, ap, arith, ltb-true, le-ltb, lt-ltb}
 use native.Mathlib.Nat.{add-sub_cancel_left}
 use Rattle.table.specs.declared.record.Frame.{Frame}
 use Rattle.table.specs.declared.record.State.{State}

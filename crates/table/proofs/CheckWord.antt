@@ -1,5 +1,6 @@
 -- The CHECK word: what the words of an encoding add up to, that CHECK makes it zero, and that only its word does.
-use Rattle.std.proofs.Common.{◌≡◌, ℕ, ◌+◌, ◌*◌, ◌/◌, ◌%◌, ◌^◌, ◌<◌, ◌≤◌, List, [], ◌∷◌, ◌++◌, length, take, drop, ℤ, sym, refl, append-nil, arith, length-append, take-append-drop, length-take-le}
+use Rattle.std.proofs.Common.{◌≡◌, ℕ, ◌+◌, ◌*◌, ◌/◌, ◌%◌, ◌^◌, ◌<◌, ◌≤◌, List, [], ◌∷◌, ◌++◌, length, take, drop}
+use Rattle.std.proofs.Common.{ℤ, sym, refl, append-nil, arith, length-append, take-append-drop, length-take-le}
 use Rattle.table.specs.Words.{words, total}
 use Rattle.table.specs.Rows.{Term, Row, clause, linear}
 use Rattle.table.specs.Model.{Model}

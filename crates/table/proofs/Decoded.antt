@@ -1,5 +1,6 @@
 -- An accepted table of bytes is the encoding of what it says, and what it says is within the limits.
-use Rattle.std.proofs.Common.{◌≡◌, ℕ, ◌+◌, ◌/◌, ◌%◌, ◌^◌, List, ◌++◌, length, drop, sym, refl, ap, ◌∙◌, append_assoc, append-nil, arith, length-append, eqb-true}
+use Rattle.std.proofs.Common.{◌≡◌, ℕ, ◌+◌, ◌/◌, ◌%◌, ◌^◌, List, ◌++◌, length, drop, sym, refl}
+use Rattle.std.proofs.Common.{ap, ◌∙◌, append_assoc, append-nil, arith, length-append, eqb-true}
 use lib.Seq.{drop-length}
 use Rattle.table.specs.declared.record.Frame.{Frame}
 use Rattle.table.specs.Words.{u16_at, words, total}

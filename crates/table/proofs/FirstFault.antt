@@ -11,7 +11,8 @@ use Rattle.table.specs.FirstFault.{FirstFaultIsTold, TooLongIsTold, LimitsAreTol
 
 pub first_fault_is_told : FirstFaultIsTold
 unfolding u16_at u32_at i32_at words total every among all_different kind_of is_known is_head term_at terms clause_at linear_at within term_in_range
-    row_in_range is_whole head_first in_sequence room_for_row length_right in_range no_repeat adds_to_zero next_phase next_frame rule_of step_at ending_of scan reading
+    row_in_range is_whole head_first in_sequence room_for_row length_right in_range
+    no_repeat adds_to_zero next_phase next_frame rule_of step_at ending_of scan reading
 first_fault_is_told =
     record {
       empty = refl;
@@ -57,8 +58,10 @@ unfolding reading
 too_long_is_told t long = rw (lt-ltb 32768 (length t) long)
 
 pub limits_are_told : LimitsAreTold
-unfolding u16_at u32_at i32_at words total every among all_different kind_of is_known is_head term_at terms clause_at linear_at within term_in_range row_in_range
-    is_whole head_first in_sequence room_for_row length_right in_range no_repeat adds_to_zero next_phase next_frame rule_of step_at ending_of scan reading number_of_step
+unfolding u16_at u32_at i32_at words total every among all_different kind_of
+    is_known is_head term_at terms clause_at linear_at within term_in_range row_in_range
+    is_whole head_first in_sequence room_for_row length_right in_range no_repeat
+    adds_to_zero next_phase next_frame rule_of step_at ending_of scan reading number_of_step
 limits_are_told =
     record {
       v_20 = refl;

@@ -1,5 +1,6 @@
 -- The limits as plain statements are the limits that the tests decide, both ways.
-use Rattle.std.proofs.Common.{◌≡◌, ℕ, ◌+◌, ◌*◌, ◌<◌, ◌≤◌, Bool, true, false, not, ◌||◌, eqb, ltb, leb, List, [], ◌∷◌, ◌++◌, length, ℤ, nat_abs, sym, refl, arith, ltb-true, lt-ltb, ne_eqb, le-leb, leb-true}
+use Rattle.std.proofs.Common.{◌≡◌, ℕ, ◌+◌, ◌*◌, ◌<◌, ◌≤◌, Bool, true, false, not, ◌||◌, eqb, ltb, leb, List, [], ◌∷◌}
+use Rattle.std.proofs.Common.{◌++◌, length, ℤ, nat_abs, sym, refl, arith, ltb-true, lt-ltb, ne_eqb, le-leb, leb-true}
 use borrow.Author.Tests.{eqb-false, not-true}
 use Rattle.table.specs.Lists.{every, among, all_different}
 use Rattle.table.specs.Rows.{Term, Row, clause, linear}

@@ -1,6 +1,7 @@
 -- Encoded records, read back: where a record of an encoding stands at a place, the reading finds it whole, of that kind and length, and decodes what was
 -- encoded.
-use Rattle.std.proofs.Common.{◌≡◌, ℕ, ◌+◌, ◌-◌, ◌*◌, ◌/◌, ◌%◌, true, List, [], ◌∷◌, ◌++◌, length, drop, ℤ, refl, ap, append_assoc, add-zero, arith, length-append}
+use Rattle.std.proofs.Common.{◌≡◌, ℕ, ◌+◌, ◌-◌, ◌*◌, ◌/◌, ◌%◌, true, List, [], ◌∷◌, ◌++◌, length}
+use Rattle.std.proofs.Common.{drop, ℤ, refl, ap, append_assoc, add-zero, arith, length-append}
 use Rattle.table.specs.Words.{u16_at}
 use Rattle.table.specs.Kinds.{Kind, Clause, Linear, kind_of, is_row}
 use Rattle.table.specs.Rows.{Term, Row, clause, linear, length_at, kind_at, after, row_at, row_of, clause_at, linear_at, rows}

@@ -1,5 +1,6 @@
 -- The records of an accepted table are the encodings of what is decoded from them, and what is decoded is within the limits.
-use Rattle.std.proofs.Common.{◌≡◌, ℕ, zero, suc, ◌+◌, ◌-◌, ◌/◌, ◌%◌, ◌≤◌, true, ◌&&◌, eqb, leb, List, ◌++◌, length, drop, sym, refl, ap, ◌∙◌, append_assoc, arith, eqb-true, leb-true}
+use Rattle.std.proofs.Common.{◌≡◌, ℕ, zero, suc, ◌+◌, ◌-◌, ◌/◌, ◌%◌, ◌≤◌, true, ◌&&◌, eqb, leb, List, ◌++◌}
+use Rattle.std.proofs.Common.{length, drop, sym, refl, ap, ◌∙◌, append_assoc, arith, eqb-true, leb-true}
 use Rattle.table.specs.Words.{u16_at, i32_at, words}
 use Rattle.table.specs.Kinds.{Kind, Head, Clause, Linear, Order, Check, Unknown, kind_of, is_known, is_row}
 use Rattle.table.specs.Rows.{Row, length_at, kind_at, after, row_at, row_of, clause_at, linear_at, rows, terms}

@@ -1,5 +1,6 @@
 -- One turn of the loops that go through a run of words or terms: what the definitions of specs/ say where the run has one element less.
-use Rattle.std.proofs.Common.{◌≡◌, ℕ, zero, suc, ◌+◌, ◌-◌, ◌%◌, ◌^◌, ◌<◌, ◌≤◌, Bool, true, false, ltb, leb, List, [], ◌∷◌, nat_abs, refl, ap, ◌∙◌, add-zero, mod-eq_of_lt, arith, w32, to_z, le-ltb, lt-ltb, eq-eqb, ne_eqb, le-leb}
+use Rattle.std.proofs.Common.{◌≡◌, ℕ, zero, suc, ◌+◌, ◌-◌, ◌%◌, ◌^◌, ◌<◌, ◌≤◌, Bool, true, false, ltb, leb, List, [], ◌∷◌, nat_abs}
+use Rattle.std.proofs.Common.{refl, ap, ◌∙◌, add-zero, mod-eq_of_lt, arith, w32, to_z, le-ltb, lt-ltb, eq-eqb, ne_eqb, le-leb}
 use mathlib.Core.Bool.{and-false}
 use native.Mathlib.Nat.{mod-add-mod}
 use borrow.Author.Tests.{lt-leb}
@@ -57,7 +58,11 @@ module _ (t : List ℕ) (at left variables : ℕ) (more : 0 < left) where
 
   -- its weight is too far from 0
   pub term_weight_out :
-      (bits size : ℕ) → bits ≡ u32_at t (at + 2) → size ≡ nat_abs (to_z w32 bits) → most_weight < size → every (term_in_range variables) (terms left t at) ≡ false
+      (bits size : ℕ) →
+      bits ≡ u32_at t (at + 2) →
+      size ≡ nat_abs (to_z w32 bits) →
+      most_weight < size →
+      every (term_in_range variables) (terms left t at) ≡ false
   unfolding term_in_range term_at i32_at
   term_weight_out bits size e f h =
       rw (terms_turn left t at more)
@@ -89,7 +94,8 @@ module _ (t : List ℕ) (at left wanted : ℕ) (more : 0 < left) where
 
 module _ (t : List ℕ) (at left : ℕ) (more : 0 < left) where
   -- the word at hand stands again later
-  pub repeated : (again : Bool) (w : ℕ) → w ≡ u16_at t at → again ≡ among w (words (left - 1) t (at + 2)) → again ≡ true → all_different (words left t at) ≡ false
+  pub repeated :
+      (again : Bool) (w : ℕ) → w ≡ u16_at t at → again ≡ among w (words (left - 1) t (at + 2)) → again ≡ true → all_different (words left t at) ≡ false
   unfolding all_different
   repeated again w e f h = rw (words_turn left t at more) (rw (← e, ← f, h))
 

@@ -1,6 +1,7 @@
 -- A table that keeps a frame is accepted with it: the other way round than proofs/Accepted.antt, so the two say that what an accepted table keeps is all
 -- that the tests ask.
-use Rattle.std.proofs.Common.{◌≡◌, ℕ, zero, suc, ◌+◌, ◌-◌, ◌*◌, ◌<◌, ◌≤◌, true, List, length, sym, refl, ◌∙◌, add-zero, zero-add, arith, le-ltb, lt-ltb, eq-eqb, le-leb}
+use Rattle.std.proofs.Common.{◌≡◌, ℕ, zero, suc, ◌+◌, ◌-◌, ◌*◌, ◌<◌, ◌≤◌, true, List, length, sym}
+use Rattle.std.proofs.Common.{refl, ◌∙◌, add-zero, zero-add, arith, le-ltb, lt-ltb, eq-eqb, le-leb}
 use Rattle.table.specs.declared.record.Phase.{Phase}
 use Rattle.table.specs.declared.record.Phase.TheVariants.{Start, Rows, Ordered, Checked}
 use Rattle.table.specs.declared.record.Frame.{Frame}

@@ -1,6 +1,7 @@
 -- What stands at a place of some bytes: where the bytes from a place on begin with the encoding of a number, the definitions of specs/ read that number
 -- there, and the bytes after it follow.
-use Rattle.std.proofs.Common.{◌≡◌, ℕ, zero, suc, ◌+◌, ◌*◌, ◌≤◌, List, [], ◌∷◌, ◌++◌, length, get_or, drop, ℤ, pos, negsuc, nat_abs, sym, refl, ap, ◌∙◌, add-zero, arith, length-drop, get_or-drop, drop-drop, drop_at, to_z-of_z, w32, SFits, of_z}
+use Rattle.std.proofs.Common.{◌≡◌, ℕ, zero, suc, ◌+◌, ◌*◌, ◌≤◌, List, [], ◌∷◌, ◌++◌, length, get_or, drop, ℤ, pos, negsuc, nat_abs, sym}
+use Rattle.std.proofs.Common.{refl, ap, ◌∙◌, add-zero, arith, length-drop, get_or-drop, drop-drop, drop_at, to_z-of_z, w32, SFits, of_z}
 use Rattle.table.specs.Words.{u16_at, u32_at, i32_at, words, total}
 use Rattle.table.specs.Rows.{Term, term_at, terms}
 use Rattle.table.specs.Model.{Each, IsI32, TermWithin}

@@ -2,24 +2,23 @@ use Rattle.meaning.proofs.OneRow.{row_long, clause_asked, linear_long, linear_as
 use Rattle.std.proofs.Common.{sym, ◌∙◌, arith}
 use Rattle.choice.proofs.scores.score_row.Goals as goal
 
--- src/scores.rt:138:38
 pub overflow_sub-body : goal.overflow_sub-body
 overflow_sub-body c = omega (arith, row_long _ _ _ _ c.requires.row_kept)
 
--- src/scores.rt:138:9
 pub score_clause-requires : goal.score_clause-requires
 score_clause-requires c = (clause_asked c.args.table.now c.args.at _ c.requires c.number-body.result c.number-body.ensures.0
     (sym c.number.ensures.0 ∙ c.if-number-eq-CLAUSE.true)).whole
 
--- src/scores.rt:141:18
 pub overflow_sub-count : goal.overflow_sub-count
-overflow_sub-count c = (linear_long c.args.table.now c.args.at _ c.requires c.number-body.result c.number-body.ensures.0 (λ two. c.if-number-eq-CLAUSE.false (c.number.ensures.0 ∙ two))).0
+overflow_sub-count c =
+    (linear_long c.args.table.now c.args.at _ c.requires c.number-body.result c.number-body.ensures.0
+    (λ two. c.if-number-eq-CLAUSE.false (c.number.ensures.0 ∙ two))).0
 
--- src/scores.rt:142:47
 pub long_number-requires : goal.long_number-requires
-long_number-requires c = (linear_long c.args.table.now c.args.at _ c.requires c.number-body.result c.number-body.ensures.0 (λ two. c.if-number-eq-CLAUSE.false (c.number.ensures.0 ∙ two))).1
+long_number-requires c =
+    (linear_long c.args.table.now c.args.at _ c.requires c.number-body.result c.number-body.ensures.0
+    (λ two. c.if-number-eq-CLAUSE.false (c.number.ensures.0 ∙ two))).1
 
--- src/scores.rt:142:9
 pub room_of-room-requires : goal.room_of-room-requires
 room_of-room-requires c = (
   linear_asked c.args.table.now c.args.at _ c.requires c.number-body.result c.number-body.ensures.0
@@ -27,7 +26,6 @@ room_of-room-requires c = (
   omega arith,
 )
 
--- src/scores.rt:143:5
 pub score_terms-requires : goal.score_terms-requires
 score_terms-requires c = (linear_asked c.args.table.now c.args.at _ c.requires c.number-body.result c.number-body.ensures.0
     (λ two. c.if-number-eq-CLAUSE.false (c.number.ensures.0 ∙ two)) c.number-body.ensures.1).whole

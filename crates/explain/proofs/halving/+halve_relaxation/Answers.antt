@@ -27,7 +27,8 @@ halve_relaxation-first-requires t c = (
   (
     relent _ c.requires.0 c.stands_whole.auto.flags,
     (first_ready (question_of c.args.table.now c.args.frame c.args.order.now) c.args.from c.args.count c.args.asking
-        c.args.flags.now _ c.stands_whole.result c.requires.1 (omega (arith, c.if-count-eq1.false, c.requires.1.some)) c.stands_whole.ensures c.if-stands_whole.false),
+        c.args.flags.now _ c.stands_whole.result c.requires.1
+        (omega (arith, c.if-count-eq1.false, c.requires.1.some)) c.stands_whole.ensures c.if-stands_whole.false),
   ),
 )
 

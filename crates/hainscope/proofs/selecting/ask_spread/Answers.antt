@@ -7,7 +7,8 @@ returns-then-rest-ne0 c = names_too_much_lem c.args.table.now c.args.frame c.arg
     c.requires.0 c.requires.1 c.spread-rest.result c.spread-rest.ensures c.if-rest-ne0.true
 
 pub can_stand-requires : goal.can_stand-requires
-can_stand-requires c = may_ask c.args.table.now c.args.frame c.args.selection c.args.chosen.now _ c.requires.0 c.requires.1 c.spread-rest.result c.spread-rest.ensures
+can_stand-requires c =
+    may_ask c.args.table.now c.args.frame c.args.selection c.args.chosen.now _ c.requires.0 c.requires.1 c.spread-rest.result c.spread-rest.ensures
 
 pub returns : goal.returns
 returns c = told_is c.args.table.now c.args.frame c.args.selection c.args.chosen.now _ c.requires.0 c.requires.1

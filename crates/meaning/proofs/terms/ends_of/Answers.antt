@@ -3,11 +3,9 @@ use Rattle.meaning.specs.States.{negative_of, positive_of}
 use native.Mathlib.Omega.{arith}
 use Rattle.meaning.proofs.terms.ends_of.Goals as goal
 
--- src/terms.rt:71:5
 pub loop-left-init : goal.loop-left-init
 loop-left-init c = (omega arith, omega arith, omega arith, c.requires.named, summed_start _ _ _ _ _, summed_start _ _ _ _ _)
 
--- src/terms.rt:72:13
 pub ends_of_term-term-requires : goal.ends_of_term-term-requires
 ends_of_term-term-requires c = (
   omega arith,
@@ -15,7 +13,6 @@ ends_of_term-term-requires c = (
       c.loop-left.left c.loop-left-test.true _ c.loop-left.invariant.3).0,
 )
 
--- src/terms.rt:71:5
 pub loop-left-preserved : goal.loop-left-preserved
 loop-left-preserved c = (
   omega arith,
@@ -28,7 +25,6 @@ loop-left-preserved c = (
       c.loop-left-test.true (most_of_one _ _ _ _ _ c.ends_of_term-term.ensures) c.loop-left.invariant.5,
 )
 
--- src/terms.rt:63:1
 pub returns : goal.returns
 returns c = record {
   least_told =

@@ -4,7 +4,6 @@ use Prim.Native.Nat.{◌*◌}
 use native.Mathlib.Omega.{arith}
 use Rattle.meaning.proofs.terms.ends_of_term.Goals as goal
 
--- src/terms.rt:57:24
 pub overflow_mul-bits : goal.overflow_mul-bits
 overflow_mul-bits c = record {
   fits = omega (
@@ -15,13 +14,11 @@ overflow_mul-bits c = record {
   );
 }
 
--- src/terms.rt:57:9
 pub raised-least-requires : goal.raised-least-requires
 raised-least-requires c = (weight_counts c.long_number-bits.result c.long_number-bits.ensures.1 negative_of c.args.table.now c.args.at
     c.args.values.now c.number-variable.result c.times.result _ c.number-variable.ensures.0 c.long_number-bits.ensures.0
     c.times.ensures (negative_side c.long_number-bits.result c.long_number-bits.ensures.1)).1
 
--- src/terms.rt:58:23
 pub overflow_mul-bits-2 : goal.overflow_mul-bits-2
 overflow_mul-bits-2 c = record {
   fits = omega (
@@ -32,13 +29,11 @@ overflow_mul-bits-2 c = record {
   );
 }
 
--- src/terms.rt:58:9
 pub raised-most-requires : goal.raised-most-requires
 raised-most-requires c = (weight_counts c.long_number-bits.result c.long_number-bits.ensures.1 positive_of c.args.table.now c.args.at
     c.args.values.now c.number-variable.result c.times-2.result _ c.number-variable.ensures.0 c.long_number-bits.ensures.0
     c.times-2.ensures (positive_side c.long_number-bits.result c.long_number-bits.ensures.1)).1
 
--- src/terms.rt:50:1
 pub returns : goal.returns
 returns c = let negative =
     weight_counts c.long_number-bits.result c.long_number-bits.ensures.1 negative_of c.args.table.now c.args.at c.args.values.now

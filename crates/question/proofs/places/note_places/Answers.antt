@@ -6,7 +6,8 @@ use Rattle.question.proofs.Noting.{rows_kept_turn, row_here, role_there, note_tu
 use Rattle.question.proofs.places.note_places.Goals as goal
 
 pub overflow_cast-places : goal.overflow_cast-places
-overflow_cast-places c = omega (arith, (row_here _ _ _ c.loop-left.invariant.1 _ _ c.loop-left-test.true c.loop-left.invariant.2).whole, c.requires.0.kept.short)
+overflow_cast-places c =
+    omega (arith, (row_here _ _ _ c.loop-left.invariant.1 _ _ c.loop-left-test.true c.loop-left.invariant.2).whole, c.requires.0.kept.short)
 
 pub overflow_add-at : goal.overflow_add-at
 overflow_add-at c = omega (arith, (row_here _ _ _ c.loop-left.invariant.1 _ _ c.loop-left-test.true c.loop-left.invariant.2).whole, c.requires.0.kept.short)
@@ -22,13 +23,15 @@ pub bounds-chosen-number : goal.bounds-chosen-number
 bounds-chosen-number c = role_there _ _ _ c.loop-left.invariant.1 _ _ c.loop-left-test.true c.loop-left.invariant.2 _ c.number.ensures.0
 
 pub overflow_add-at-in-loop-left : goal.overflow_add-at-in-loop-left
-overflow_add-at-in-loop-left c = omega (arith, (row_here _ _ _ c.loop-left.invariant.1 _ _ c.loop-left-test.true c.loop-left.invariant.2).whole, c.requires.0.kept.short)
+overflow_add-at-in-loop-left c =
+    omega (arith, (row_here _ _ _ c.loop-left.invariant.1 _ _ c.loop-left-test.true c.loop-left.invariant.2).whole, c.requires.0.kept.short)
 
 pub number-requires-in-loop-left : goal.number-requires-in-loop-left
 number-requires-in-loop-left c = omega (arith, (row_here _ _ _ c.loop-left.invariant.1 _ _ c.loop-left-test.true c.loop-left.invariant.2).whole)
 
 pub overflow_add-at-in-loop-left-2 : goal.overflow_add-at-in-loop-left-2
-overflow_add-at-in-loop-left-2 c = omega (arith, (row_here _ _ _ c.loop-left.invariant.1 _ _ c.loop-left-test.true c.loop-left.invariant.2).whole, c.requires.0.kept.short)
+overflow_add-at-in-loop-left-2 c =
+    omega (arith, (row_here _ _ _ c.loop-left.invariant.1 _ _ c.loop-left-test.true c.loop-left.invariant.2).whole, c.requires.0.kept.short)
 
 pub loop-left-preserved : goal.loop-left-preserved
 loop-left-preserved c = rw c.number-in-loop-left.ensures.0 (

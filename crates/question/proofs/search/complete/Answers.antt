@@ -13,8 +13,10 @@ returns-in-Met c = look_met c.args.table.now c.args.places.now c.args.noted c.ar
     c.loop-values.waiting _ c.loop-values.depth c.loop-values.count c.loop-values.values c.loop-values.invariant.4 _ _ c.look-seen.ensures c.in-Met.is
 
 pub take_back-depth-requires : goal.take_back-depth-requires
-take_back-depth-requires c = may_take_back c.args.table.now c.args.places.now c.args.noted c.args.values.now c.loop-values.variables c.loop-values.waiting _ _ _ _
-    c.loop-values.invariant.4 (omega (arith, c.loop-values.invariant.2, c.requires.2.each)) (omega (arith, c.loop-values.invariant.3, c.requires.2.each_waiting))
+take_back-depth-requires c =
+    may_take_back c.args.table.now c.args.places.now c.args.noted c.args.values.now c.loop-values.variables c.loop-values.waiting _ _ _ _
+    c.loop-values.invariant.4 (omega (arith, c.loop-values.invariant.2, c.requires.2.each))
+    (omega (arith, c.loop-values.invariant.3, c.requires.2.each_waiting))
 
 pub returns-then-depth-eq0 : goal.returns-then-depth-eq0
 returns-then-depth-eq0 c = let failed =
@@ -52,7 +54,8 @@ turn-count-requires c = let failed =
       decision.bit,
       omega (
         arith,
-        depth_most c.args.table.now c.args.places.now c.args.noted c.args.values.now c.loop-values.variables c.loop-values.waiting _ _ _ _ c.loop-values.invariant.4,
+        depth_most c.args.table.now c.args.places.now c.args.noted c.args.values.now
+            c.loop-values.variables c.loop-values.waiting _ _ _ _ c.loop-values.invariant.4,
         c.loop-values.invariant.3,
         c.requires.2.each_waiting,
         c.take_back-depth.ensures.few,
@@ -65,7 +68,8 @@ loop-values-smaller-in-Fails c = let failed =
     look_fails c.args.table.now c.args.places.now c.args.noted c.args.values.now c.loop-values.variables c.loop-values.waiting _
     c.loop-values.depth c.loop-values.count c.loop-values.values c.loop-values.invariant.4 _ _ c.look-seen.ensures c.in-Fails.is in
     let deep =
-    depth_most c.args.table.now c.args.places.now c.args.noted c.args.values.now c.loop-values.variables c.loop-values.waiting _ _ _ _ c.loop-values.invariant.4 in
+    depth_most c.args.table.now c.args.places.now c.args.noted c.args.values.now
+    c.loop-values.variables c.loop-values.waiting _ _ _ _ c.loop-values.invariant.4 in
     fewer_back c.args.table.now c.args.places.now c.args.noted c.args.values.now c.loop-values.variables c.loop-values.waiting _ _ _ _
     c.take_back-depth.result _ _ failed c.take_back-depth.ensures (omega (arith, c.if-depth-eq0.false)) _ _ _
     (omega (arith, deep, c.loop-values.invariant.3, c.requires.2.each_waiting, c.take_back-depth.ensures.few, c.if-depth-eq0.false))
@@ -76,7 +80,8 @@ loop-values-preserved-in-Fails c = let failed =
     look_fails c.args.table.now c.args.places.now c.args.noted c.args.values.now c.loop-values.variables c.loop-values.waiting _
     c.loop-values.depth c.loop-values.count c.loop-values.values c.loop-values.invariant.4 _ _ c.look-seen.ensures c.in-Fails.is in
     let deep =
-    depth_most c.args.table.now c.args.places.now c.args.noted c.args.values.now c.loop-values.variables c.loop-values.waiting _ _ _ _ c.loop-values.invariant.4 in (
+    depth_most c.args.table.now c.args.places.now c.args.noted c.args.values.now c.loop-values.variables c.loop-values.waiting _ _ _ _
+    c.loop-values.invariant.4 in (
       c.look-seen.auto.places ∙ c.loop-values.invariant.0,
       c.look-seen.auto.notes ∙ c.loop-values.invariant.1,
       c.loop-values.invariant.2,

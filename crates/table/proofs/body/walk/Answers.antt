@@ -5,7 +5,8 @@ use Rattle.table.proofs.Bodies.{place_turn, place_here, whole_here, whole_next, 
 use Rattle.table.proofs.body.walk.Goals as goal
 
 pub returns-then-table-at : goal.returns-then-table-at
-returns-then-table-at c = none_found c.args.table.now c.loop-left.at c.loop-left.left c.if-table-at.true ∙ ap (stretch_at c.args.table.now) c.loop-left.invariant.0
+returns-then-table-at c =
+    none_found c.args.table.now c.loop-left.at c.loop-left.left c.if-table-at.true ∙ ap (stretch_at c.args.table.now) c.loop-left.invariant.0
 
 pub number-requires : goal.number-requires
 number-requires c = omega (arith, (whole_here c.args.table.now c.loop-left.at c.loop-left.invariant.1 c.if-table-at.false))
@@ -17,7 +18,8 @@ loop-left-preserved c = (
 )
 
 pub returns-then-table-at-2 : goal.returns-then-table-at-2
-returns-then-table-at-2 c = none_found c.args.table.now c.loop-left.at c.loop-left.left c.if-table-at-2.true ∙ ap (stretch_at c.args.table.now) c.loop-left.invariant.0
+returns-then-table-at-2 c =
+    none_found c.args.table.now c.loop-left.at c.loop-left.left c.if-table-at-2.true ∙ ap (stretch_at c.args.table.now) c.loop-left.invariant.0
 
 pub number-requires-2 : goal.number-requires-2
 number-requires-2 c = omega (arith, (whole_here c.args.table.now c.loop-left.at c.loop-left.invariant.1 c.if-table-at-2.false))

@@ -4,7 +4,8 @@ use Rattle.table.proofs.Runs.{term_variable_out, term_weight_out, term_within, n
 use Rattle.table.proofs.ranges.terms_within.Goals as goal
 
 pub returns-then-variables-number : goal.returns-then-variables-number
-returns-then-variables-number c = sym (term_variable_out c.args.table.now c.loop-left.at c.loop-left.left c.args.variables c.loop-left-test.true (omega arith)) ∙ c.loop-left.invariant.1
+returns-then-variables-number c =
+    sym (term_variable_out c.args.table.now c.loop-left.at c.loop-left.left c.args.variables c.loop-left-test.true (omega arith)) ∙ c.loop-left.invariant.1
 
 pub returns-then-magnitude-gt-MOST_WEIGHT : goal.returns-then-magnitude-gt-MOST_WEIGHT
 returns-then-magnitude-gt-MOST_WEIGHT c = sym (term_weight_out c.args.table.now c.loop-left.at c.loop-left.left c.args.variables c.loop-left-test.true

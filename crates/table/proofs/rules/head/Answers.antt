@@ -12,7 +12,8 @@ use Rattle.table.proofs.rules.head.Goals as goal
 
 pub returns-then-number-ne4 : goal.returns-then-number-ne4
 unfolding is_known is_head head_first in_sequence room_for_row length_right
-returns-then-number-ne4 c = λ f. wrong_length_lem Head c.args.table.now c.args.at Start f refl refl refl refl (ne_eqb (length_at c.args.table.now c.args.at) 4 (omega arith))
+returns-then-number-ne4 c =
+    λ f. wrong_length_lem Head c.args.table.now c.args.at Start f refl refl refl refl (ne_eqb (length_at c.args.table.now c.args.at) 4 (omega arith))
 
 pub returns-then-variables-gt-MOST_VARIABLES : goal.returns-then-variables-gt-MOST_VARIABLES
 unfolding is_known is_head head_first in_sequence room_for_row length_right in_range

@@ -11,7 +11,8 @@ use Rattle.table.proofs.rules.linear.Goals as goal
 
 pub returns-then-frame-ge-MOST_ROWS : goal.returns-then-frame-ge-MOST_ROWS
 unfolding is_known is_head head_first in_sequence room_for_row
-returns-then-frame-ge-MOST_ROWS c = too_many_rows_lem Linear c.args.table.now c.args.at Rows c.args.frame refl refl refl (le-ltb c.args.frame.rows 512 c.if-frame-ge-MOST_ROWS.true)
+returns-then-frame-ge-MOST_ROWS c =
+    too_many_rows_lem Linear c.args.table.now c.args.at Rows c.args.frame refl refl refl (le-ltb c.args.frame.rows 512 c.if-frame-ge-MOST_ROWS.true)
 
 pub returns-then-length-lt6 : goal.returns-then-length-lt6
 unfolding is_known is_head head_first in_sequence room_for_row
@@ -33,7 +34,8 @@ returns-then-length-ne0 c = wrong_length_lem Linear c.args.table.now c.args.at R
 
 pub returns-then-not-linear_in_range : goal.returns-then-not-linear_in_range
 unfolding is_known is_head head_first in_sequence room_for_row in_range
-returns-then-not-linear_in_range c = out_of_range_lem Linear c.args.table.now c.args.at Rows c.args.frame refl refl refl (lt-ltb c.args.frame.rows 512 c.if-frame-ge-MOST_ROWS.false)
+returns-then-not-linear_in_range c =
+    out_of_range_lem Linear c.args.table.now c.args.at Rows c.args.frame refl refl refl (lt-ltb c.args.frame.rows 512 c.if-frame-ge-MOST_ROWS.false)
     (linear_right c.args.frame.requests (length_at c.args.table.now c.args.at) (omega arith) (omega arith) (omega arith))
     (sym c.linear_in_range.ensures ∙ not-true _ c.if-not-linear_in_range.true-raw)
 

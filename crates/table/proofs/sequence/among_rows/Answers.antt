@@ -29,7 +29,8 @@ returns-in-5 c = rw (← c.word-kind.ensures.0, c.in-5.is) (out_of_sequence_lem 
 
 pub returns-in-0 : goal.returns-in-0
 unfolding kind_of is_known
-returns-in-0 c = let e : c.word-kind.result ≡ 0 = omega arith in rw (← c.word-kind.ensures.0, e) (unknown_kind_lem Unknown c.args.table.now c.args.at Rows c.args.frame refl)
+returns-in-0 c =
+    let e : c.word-kind.result ≡ 0 = omega arith in rw (← c.word-kind.ensures.0, e) (unknown_kind_lem Unknown c.args.table.now c.args.at Rows c.args.frame refl)
 
 pub returns-in-0-2 : goal.returns-in-0-2
 unfolding is_known

@@ -20,8 +20,10 @@ returns-in-2-to-5 c = λ f. rw (← c.word-kind.ensures.0)
 
 pub returns-in-0 : goal.returns-in-0
 unfolding kind_of is_known
-returns-in-0 c = let e : c.word-kind.result ≡ 0 = omega arith in λ f. rw (← c.word-kind.ensures.0, e) (unknown_kind_lem Unknown c.args.table.now c.args.at Start f refl)
+returns-in-0 c =
+    let e : c.word-kind.result ≡ 0 = omega arith in λ f. rw (← c.word-kind.ensures.0, e) (unknown_kind_lem Unknown c.args.table.now c.args.at Start f refl)
 
 pub returns-in-0-2 : goal.returns-in-0-2
 unfolding is_known
-returns-in-0-2 c = λ f. rw (← c.word-kind.ensures.0, above_five c.word-kind.result (omega arith)) (unknown_kind_lem Unknown c.args.table.now c.args.at Start f refl)
+returns-in-0-2 c =
+    λ f. rw (← c.word-kind.ensures.0, above_five c.word-kind.result (omega arith)) (unknown_kind_lem Unknown c.args.table.now c.args.at Start f refl)
