@@ -10,7 +10,7 @@ cd "$(dirname "$0")/.."
 digest() { sha256sum | cut -d ' ' -f 1; }
 
 sources() {
-    find crates -type f \( -path '*/src/*' -o -path '*/specs/*' -o -path '*/proofs/*' \) -print0 | LC_ALL=C sort -z |
+    find crates -name out -prune -o -type f \( -path '*/src/*' -o -path '*/specs/*' -o -path '*/proofs/*' \) -print0 | LC_ALL=C sort -z |
         xargs -0 sha256sum crates.txt
 }
 

@@ -14,7 +14,7 @@ other='is not of the Rattle sources as they stand'
 
 bash rust/archive.sh >/dev/null || exit 2
 mkdir -p "$copy/target" "$room/stands/lib"
-cp -R rust crates crates.txt "$copy" && cp -R target/staticlib "$copy/target" || exit 2
+cp -R rust crates crates.txt "$copy" && cp -R target/staticlib "$copy/target" && rm -rf "$copy"/crates/*/out || exit 2
 cp target/staticlib/* "$room/stands/lib"
 export CARGO_TARGET_DIR=$room/built
 

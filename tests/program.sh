@@ -58,12 +58,12 @@ holds 'six at once' test "$(sort -u "$room"/at-once.*)" = "$(sort -u samples/h.e
 # A copy of the tree, with all that is built, to make edits in
 copy=$room/copy
 mkdir -p "$copy/target"
-cp -R hainscope crates crates.txt "$copy" && cp -R target/{bin,log,obj,rlib,stamp} "$copy/target" || exit 2
+cp -R hainscope crates crates.txt "$copy" || exit 2
 source=$copy/crates/hainscope_cli/src/main.rt
 proving='proving and building the program'
 
 expect 'a copy is built already' 0 "$answer" '' "$copy/hainscope" samples/h.table
-rm "$copy/target/bin/hainscope_cli"
+rm "$copy/crates/hainscope_cli/out/hainscope_cli"
 expect 'a program that is gone is built again' 0 "$answer" "$proving" "$copy/hainscope" samples/h.table
 
 sed -i 's/b"relax"/b"relaxation"/' "$source"
