@@ -3,7 +3,7 @@
 // cannot be read it prints nothing, and says so on standard error.
 #![tactic(auto)]
 
-ghost use Rattle.std.specs.Prelude.{◌≤◌, IfOk, length};
+ghost use Rattle.std.specs.Prelude.{◌≤◌, length};
 
 use hainscope::calls::{hainscope_conflict, hainscope_relaxation};
 use std::io;
@@ -65,29 +65,43 @@ fn explain(rt: &HostRuntime, table: &[u8]) -> io::Result<()> {
     print_report(rt, b"relax", &report, place)
 }
 
-// Reads from the reader until it has ended or the bytes are full, and returns how many came.
-fn read_full<R: Read>(reader: &mut R, bytes: &mut [u8]) -> io::Result<usize>
-    ensures { IfOk result (λ came. came ≤ length bytes.old) }
+// Reads until the bytes are full or no more come, and returns how many came.
+fn read_full<R: Read>(reader: &mut R, bytes: &mut [u8]) -> usize
+    ensures { result ≤ length bytes.old }
 {
     let mut came = 0;
     while came < bytes.len() {
-        let more = reader.read(&mut bytes[came..])?;
-        if more == 0 {
-            return Ok(came);
+        match reader.read(&mut bytes[came..]) {
+            Ok(0) => return came,
+            Ok(more) => came = came + more,
+            Err(_) => return came,
         }
-        came = came + more;
     }
-    Ok(came)
+    came
+}
+
+// Whether the input has ended, and did not fail: a further read gives nothing.
+fn has_ended<R: Read>(reader: &mut R) -> bool {
+    let mut more = [0u8; 1];
+    match reader.read(&mut more) {
+        Ok(count) => count == 0,
+        Err(_) => false,
+    }
 }
 
 // A table of more bytes than any may have is refused as one byte too long; an input that cannot be read is no
 // table, and gets no answer.
 fn main(rt: HostRuntime) -> io::Result<()> {
     let mut input = [0u8; MOST_BYTES + 1];
-    match read_full(&mut rt.reader(), &mut input) {
-        Ok(came) => explain(&rt, &input[..came]),
-        Err(_) => rt
-            .stderr()
-            .write_all(b"hainscope: the input cannot be read\n"),
+    let mut reader = rt.reader();
+    let came = read_full(&mut reader, &mut input);
+    if MOST_BYTES < came {
+        return explain(&rt, &input);
+    }
+    if has_ended(&mut reader) {
+        explain(&rt, &input[..came])
+    } else {
+        rt.stderr()
+            .write_all(b"hainscope: the input cannot be read\n")
     }
 }
