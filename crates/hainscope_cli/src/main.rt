@@ -7,20 +7,20 @@ ghost use Rattle.std.specs.Prelude.{◌≤◌, length};
 
 use hainscope::calls::{hainscope_conflict, hainscope_relaxation};
 use std::io;
-use std::io::Read;
+use std::io::{Print, Read};
 use table::limits::{MOST_BYTES, MOST_REQUESTS};
 use table::words::number;
 
 const LONGEST_REPORT: usize = 12 + 2 * MOST_REQUESTS;
 
 // Writes a space and a number.
-fn print_number(rt: &HostRuntime, n: usize) -> io::Result<()> {
+fn print_number(rt: &impl Print, n: usize) -> io::Result<()> {
     rt.write_all(b" ")?;
     rt.print(n)
 }
 
 // Writes the words of a report from `from` on, up to `end` and no further than the report reaches.
-fn print_words(rt: &HostRuntime, report: &[u8], from: usize, end: usize) -> io::Result<()> {
+fn print_words(rt: &impl Print, report: &[u8], from: usize, end: usize) -> io::Result<()> {
     let mut at = from;
     while at < end {
         if report.len() < 2 {
@@ -37,7 +37,7 @@ fn print_words(rt: &HostRuntime, report: &[u8], from: usize, end: usize) -> io::
 
 // Writes a report that ends at `end` as a line: the name, status, count, k and the k request numbers. The count
 // stands as a u32 in the report; it is at most 130, so that its upper half is 0 and not written.
-fn print_report(rt: &HostRuntime, name: &[u8], report: &[u8], end: usize) -> io::Result<()> {
+fn print_report(rt: &impl Print, name: &[u8], report: &[u8], end: usize) -> io::Result<()> {
     rt.write_all(name)?;
     print_words(rt, report, 4, 8)?;
     print_words(rt, report, 10, end)?;
@@ -45,7 +45,7 @@ fn print_report(rt: &HostRuntime, name: &[u8], report: &[u8], end: usize) -> io:
 }
 
 // Writes a refusal as a line.
-fn print_refusal(rt: &HostRuntime, refusal: u32, place: usize) -> io::Result<()> {
+fn print_refusal(rt: &impl Print, refusal: u32, place: usize) -> io::Result<()> {
     rt.write_all(b"refused")?;
     print_number(rt, refusal as usize)?;
     print_number(rt, place)?;
@@ -53,7 +53,7 @@ fn print_refusal(rt: &HostRuntime, refusal: u32, place: usize) -> io::Result<()>
 }
 
 // Writes what is to be said of a table.
-fn explain(rt: &HostRuntime, table: &[u8]) -> io::Result<()> {
+fn explain(rt: &impl Print, table: &[u8]) -> io::Result<()> {
     let mut report = [0u8; LONGEST_REPORT];
     let mut place: usize = 0;
     let refusal = hainscope_conflict(table, &mut report, 0, &mut place);
