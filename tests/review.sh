@@ -87,7 +87,7 @@ cd "$root" || exit 2
 # A copy of the tree in which a proof is broken: no library, no answer
 copy=$room/copy
 mkdir -p "$copy/target"
-cp -R hainscope-review crates crates.txt "$copy" && cp -R target/{log,rlib,stamp,staticlib} "$copy/target" || exit 2
+cp -R hainscope-review crates crates.txt "$copy" && cp -R target/staticlib "$copy/target" || exit 2
 cp -R rust "$copy" && rm -rf "$copy/rust/target"
 sed -i 's/^    12 + 2 \* requests/    11 + 2 * requests/' "$copy/crates/hainscope/src/reporting.rt"
 holds 'an edit is made in a copy' test "$(diff -r crates "$copy/crates" | grep -c '^<')" = 1

@@ -5,6 +5,8 @@ unset CDPATH
 cd "$(dirname "$0")/.." || exit 2
 . tests/expect.sh
 
+./hainscope samples/h.table >/dev/null 2>&1 # builds it where nothing is built yet
+
 for table in samples/*.table; do
     expected=$(cat "${table%.table}.expected")
     status=0
