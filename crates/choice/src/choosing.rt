@@ -9,7 +9,7 @@ use crate::scores::score_anew;
 use crate::variables::{best_variable, better_value};
 
 // The variable that is decided next, and the value that is tried first.
-#[derive(Drop)]
+#[derive(Clone, Copy)]
 pub struct Choice {
     pub variable: usize,
     pub first: u8,

@@ -23,7 +23,7 @@ pub enum Method {
 
 // What the shared start found: all can stand; the host rows cannot, with the number of questions; or neither,
 // after two questions.
-#[derive(Drop)]
+#[derive(Clone, Copy)]
 pub enum Begun {
     AllStand,
     HostFails(usize),
@@ -31,7 +31,7 @@ pub enum Begun {
 }
 
 // Status and count of an answer; the flags have its set.
-#[derive(Drop)]
+#[derive(Clone, Copy)]
 pub struct Outcome {
     pub status: usize,
     pub asked: usize,

@@ -9,7 +9,7 @@ use table::limits::{MOST_REQUESTS, MOST_ROWS};
 use table::record::Frame;
 
 // What working a part told: how many of its requests matter, and how many questions were asked.
-#[derive(Drop)]
+#[derive(Clone, Copy)]
 pub struct Worked {
     pub found: usize,
     pub asked: usize,

@@ -1,4 +1,5 @@
-// The C functions. Each returns the refusal number, 0 where the call is accepted, and sets the place.
+// The public calls, which the crate `hainscope_c` exports to C. Each returns the refusal number, 0 where the call is
+// accepted, and sets the place.
 ghost use Rattle.std.specs.Prelude.{◌≡◌, cond};
 ghost use Rattle.table.specs.Kept.{Kept};
 ghost use Rattle.explain.specs.declared.answers.Method.TheVariants.{ConflictByHalving, ConflictOneByOne, RelaxationByHalving, RelaxationOneByOne};

@@ -8,7 +8,7 @@ use table::limits::{MOST_REQUESTS, MOST_ROWS};
 use table::record::Frame;
 
 // What asking about a selection tells: it names a request above N, or whether it can stand.
-#[derive(Drop)]
+#[derive(Clone, Copy)]
 pub enum Verdict {
     NamesTooMuch,
     Answered(bool),

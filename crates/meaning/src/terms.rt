@@ -35,7 +35,7 @@ fn times(value: u8, free: usize) -> usize
 }
 
 // The least and the most that some terms can add up to, each with 2^31 more for every term.
-#[derive(Drop)]
+#[derive(Clone, Copy)]
 pub struct Ends {
     pub least: usize,
     pub most: usize,

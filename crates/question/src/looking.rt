@@ -8,7 +8,7 @@ use choice::choosing::choose;
 use choice::notes::blame;
 
 // The variable that is decided next, the value that is tried first, and how many rows are open.
-#[derive(Drop)]
+#[derive(Clone, Copy)]
 pub struct Decision {
     pub variable: usize,
     pub first: u8,
@@ -16,7 +16,7 @@ pub struct Decision {
 }
 
 // No completion meets all rows; some completion does; or the next decision will tell.
-#[derive(Drop)]
+#[derive(Clone, Copy)]
 pub enum Seen {
     Fails,
     Met,

@@ -7,7 +7,7 @@ use crate::refusals::{NO_RECORD, Refusal};
 use crate::words::number;
 
 // Where a body stands in its table: its first byte and how many there are; or why there is none.
-#[derive(Drop)]
+#[derive(Clone, Copy)]
 pub enum Stretch {
     Found(usize, usize),
     Missing(Refusal),

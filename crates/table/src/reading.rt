@@ -9,7 +9,7 @@ use crate::sequence::step;
 use crate::words::number;
 
 // What reading a table gives.
-#[derive(Drop)]
+#[derive(Clone, Copy)]
 pub enum Reading {
     Accepted(Frame),
     Refused(Refusal),

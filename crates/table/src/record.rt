@@ -1,7 +1,7 @@
 // What the records of a table tell, one after another.
 
 // How far the table has come: nothing yet, HEAD and rows, ORDER, CHECK.
-#[derive(Drop)]
+#[derive(Clone, Copy)]
 pub enum Phase {
     Start,
     Rows,
@@ -19,14 +19,14 @@ pub struct Frame {
 }
 
 // What the records so far have told.
-#[derive(Drop)]
+#[derive(Clone, Copy)]
 pub struct State {
     pub phase: Phase,
     pub frame: Frame,
 }
 
 // What one record does: the state after it, or the number of the refusal.
-#[derive(Drop)]
+#[derive(Clone, Copy)]
 pub enum Step {
     Next(State),
     Stop(u32),

@@ -22,7 +22,7 @@ pub const TOO_MANY_ROWS: u32 = 10;
 pub const NO_RECORD: u32 = 13;
 
 // A refusal number and the byte place that goes with it.
-#[derive(Drop)]
+#[derive(Clone, Copy)]
 pub struct Refusal {
     pub number: u32,
     pub place: usize,
