@@ -66,16 +66,16 @@ expect 'a copy is built already' 0 "$answer" '' "$copy/hainscope" samples/h.tabl
 rm "$copy/crates/hainscope_cli/out/hainscope_cli"
 expect 'a program that is gone is built again' 0 "$answer" "$proving" "$copy/hainscope" samples/h.table
 
-sed -i 's/b"relax"/b"relaxation"/' "$source"
+sed -i 's/"relax"/"relaxation"/' "$source"
 sed -i 's/^relax /relaxation /' "$copy/crates/hainscope_cli/stdout"
 expect 'an edit is answered by the new program, and the proof announced' 0 "${answer/relax/relaxation}" "$proving" "$copy/hainscope" samples/h.table
 expect 'then it is built' 0 "${answer/relax/relaxation}" '' "$copy/hainscope" samples/h.table
 
-sed -i 's/report.len() - 2 < at/report.len() - 1 < at/' "$source"
+sed -i 's/words\[5\]/words[70]/' "$source"
 expect 'an edit that breaks a proof stops it' 3 '' 'the check of the sources failed' "$copy/hainscope" samples/h.table
 expect 'and stops it again' 3 '' 'the check of the sources failed' "$copy/hainscope" samples/h.table
 
-sed -i 's/report.len() - 1 < at/report.len() - 2 < at/' "$source"
-sed -i 's/b"relaxation"/b"slack"/' "$source"
+sed -i 's/words\[70\]/words[5]/' "$source"
+sed -i 's/"relaxation"/"slack"/' "$source"
 expect 'an edit that prints something else than the program must stops it' 3 '' "its file 'stdout'" "$copy/hainscope" samples/h.table
 expect 'and what that build left is not run' 3 '' 'the check of the sources failed' "$copy/hainscope" samples/h.table

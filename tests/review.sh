@@ -89,6 +89,6 @@ copy=$room/copy
 mkdir -p "$copy/target"
 cp -R hainscope-review crates crates.txt "$copy" && cp -R target/staticlib "$copy/target" || exit 2
 cp -R rust "$copy" && rm -rf "$copy/rust/target"
-sed -i 's/^    12 + 2 \* requests/    11 + 2 * requests/' "$copy/crates/hainscope/src/reporting.rt"
+sed -i 's/&& 12 + 2 \* requests/\&\& 11 + 2 * requests/' "$copy/crates/hainscope/src/reporting.rt"
 holds 'an edit is made in a copy' test "$(diff -r crates "$copy/crates" | grep -c '^<')" = 1
 expect 'an edit that breaks a proof stops it' 3 '' 'the library could not be proved' "$copy/hainscope-review" explain "$accident"

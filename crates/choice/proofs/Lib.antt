@@ -1,2 +1,2 @@
--- The laws of the choice: BestVariable, the walk over the variables that keeps the best so far.
-pub mod BestVariable
+-- Named: that a row names only variables that there are has one proof at most.
+pub mod Named

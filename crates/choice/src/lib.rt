@@ -5,5 +5,6 @@
 mod blind;
 pub mod choosing;
 pub mod notes;
+mod open_rows;
 mod scores;
 mod variables;

@@ -1,123 +1,105 @@
-// What the choice notes for itself while a search goes on: the score of each literal, behind these how dear each variable has been, and last
-// how many levels below the decision of each variable are decided blindly. An entry that is not there reads as 0, and nothing is written to
-// it; sums wrap.
-ghost use Rattle.std.specs.Prelude.{◌<◌};
+// What the choice notes for itself while a search goes on, of each variable. A variable that is not there reads as one of which nothing is
+// noted, and nothing is written of it; sums wrap.
+ghost use Rattle.std.specs.Prelude.{◌≡◌, [], ◌∷◌, replicate};
+ghost use Rattle.table.specs.Limits.{most_variables};
 
 use meaning::half_made::is_undecided;
-use std::num::wrapping_add_u32;
 use table::limits::MOST_VARIABLES;
 
-// So many notes there are.
-pub const MOST_NOTES: usize = 4 * MOST_VARIABLES;
+// The notes: of each variable the scores of its two literals, first that of the one that is true where the variable is 1; how dear the
+// variable has been; and how many levels below its decision are decided blindly.
+// Kept: three arrays, since one array of structs made a question 4 % slower, and tables of sums 2 to 4 %.
+#[derive(Drop)]
+pub struct Notes {
+    scores: [[u32; 2]; MOST_VARIABLES],
+    dearness: [u32; MOST_VARIABLES],
+    blind: [usize; MOST_VARIABLES],
+}
 
-// The scores come first, and then the dearness of variable 0.
-const DEARNESS: usize = 2 * MOST_VARIABLES;
-
-// Then the blind levels below variable 0.
-const BLIND: usize = 3 * MOST_VARIABLES;
-
-// The note at a place.
-fn note_at(notes: &[u32], at: usize) -> u32 {
-    if notes.len() <= at {
-        return 0;
+impl Notes {
+    // Nothing is noted yet.
+    pub fn new() -> Self
+        ensures scores { result.scores ≡ replicate most_variables (0 ∷ 0 ∷ []) }
+        ensures dearness { result.dearness ≡ replicate most_variables 0 }
+        ensures blind { result.blind ≡ replicate most_variables 0 }
+    {
+        Notes {
+            scores: [[0; 2]; MOST_VARIABLES],
+            dearness: [0; MOST_VARIABLES],
+            blind: [0; MOST_VARIABLES],
+        }
     }
-    notes[at]
-}
 
-// Adds to the note at a place.
-fn add_to_note(notes: &mut [u32], at: usize, more: u32) {
-    if at < notes.len() {
-        notes[at] = wrapping_add_u32(notes[at], more);
+    // Adds to the score of a literal.
+    pub(crate) fn add_score(&mut self, literal: usize, more: u32) {
+        if let Some(score) = self.scores.as_flattened_mut().get_mut(literal) {
+            *score = score.wrapping_add(more);
+        }
     }
-}
 
-// Adds to the score of a literal.
-pub fn add_score(notes: &mut [u32], literal: usize, more: u32) {
-    if literal < DEARNESS {
-        add_to_note(notes, literal, more);
+    // Sets all scores to 0.
+    pub(crate) fn clear_scores(&mut self) {
+        self.scores.fill([0; 2]);
     }
-}
 
-// Sets the note at a place.
-fn set_note(notes: &mut [u32], at: usize, note: u32) {
-    if at < notes.len() {
-        notes[at] = note;
+    // Notes how many levels below a variable's decision are decided blindly.
+    pub(crate) fn note_blind(&mut self, variable: usize, blind: usize) {
+        if let Some(noted) = self.blind.get_mut(variable) {
+            *noted = blind;
+        }
     }
-}
 
-// Sets all scores to 0.
-pub fn clear_scores(notes: &mut [u32]) {
-    let mut next = 0;
-    while next < DEARNESS {
-        set_note(notes, next, 0);
-        next = next + 1;
+    // How many levels below a variable's decision are decided blindly.
+    pub fn blind_of(&self, variable: usize) -> usize {
+        self.blind.get(variable).copied().unwrap_or(0)
     }
-}
 
-// Notes how many levels below a variable's decision are decided blindly.
-pub fn note_blind(notes: &mut [u32], variable: usize, blind: usize)
-    requires { variable < 65536 }
-{
-    set_note(notes, BLIND + variable, (blind % 65536) as u32);
-}
-
-// How many levels below a variable's decision are decided blindly.
-pub fn blind_of(notes: &[u32], variable: usize) -> usize
-    requires { variable < 65536 }
-{
-    note_at(notes, BLIND + variable) as usize
-}
-
-// The score of a variable: what its two literals have together.
-pub fn score_of(notes: &[u32], variable: usize) -> u32
-    requires { variable < 65536 }
-{
-    let literal = 2 * variable;
-    wrapping_add_u32(note_at(notes, literal), note_at(notes, literal + 1))
-}
-
-// Whether the literal that is true where the variable is 0 has the higher score.
-pub fn zero_is_better(notes: &[u32], variable: usize) -> bool
-    requires { variable < 65536 }
-{
-    let literal = 2 * variable;
-    note_at(notes, literal) < note_at(notes, literal + 1)
-}
-
-// What variables are compared by: dearness first, then score; 0 where the variable has no score.
-pub fn rank_of(notes: &[u32], variable: usize) -> u64
-    requires { variable < 65536 }
-{
-    let score = score_of(notes, variable);
-    if score == 0 {
-        return 0;
+    // The score of a variable: what its two literals have together.
+    pub(crate) fn score_of(&self, variable: usize) -> u32 {
+        match self.scores.get(variable) {
+            Some([one, zero]) => one.wrapping_add(*zero),
+            None => 0,
+        }
     }
-    4294967296 * (note_at(notes, DEARNESS + variable) as u64) + score as u64
-}
 
-// Makes a variable dearer, where it is decided and has a score.
-fn make_dearer(values: &[u8], notes: &mut [u32], variable: usize, more: u32)
-    requires { variable < 65536 }
-{
-    if is_undecided(values, variable) {
-        return;
+    // The value that makes the literal with the higher score true; 1 where both have one score.
+    pub(crate) fn better_value(&self, variable: usize) -> bool {
+        match self.scores.get(variable) {
+            Some([one, zero]) => *zero <= *one,
+            None => true,
+        }
     }
-    if score_of(notes, variable) == 0 {
-        return;
-    }
-    add_to_note(notes, DEARNESS + variable, more);
-}
 
-// Makes variables dearer where a row failed only after many others were tested: those that were decided since the rows were scored. They
-// choose which row fails; once they are decided early, the same rows fail again and again, and these are tested first.
-pub fn blame(values: &[u8], notes: &mut [u32], tested: usize) {
-    let more = (tested / 16 % 65536) as u32;
-    if more == 0 {
-        return;
+    // What variables are compared by: dearness first, then score; 0 where the variable has no score.
+    // Kept: one number, and 0 for none, which is below every other: two that are compared one after the other (a tuple) made a question 4 % slower.
+    pub(crate) fn rank_of(&self, variable: usize) -> u64 {
+        let score = self.score_of(variable);
+        if score == 0 {
+            return 0;
+        }
+        let dearness = self.dearness.get(variable).copied().unwrap_or(0);
+        (u64::from(dearness) << 32) + u64::from(score)
     }
-    let mut variable = 0;
-    while variable < MOST_VARIABLES {
-        make_dearer(values, notes, variable, more);
-        variable = variable + 1;
+
+    // Makes a variable dearer, where it is decided and has a score.
+    fn make_dearer(&mut self, values: &[Option<bool>], variable: usize, more: u32) {
+        if is_undecided(values, variable) || self.score_of(variable) == 0 {
+            return;
+        }
+        if let Some(dearness) = self.dearness.get_mut(variable) {
+            *dearness = dearness.wrapping_add(more);
+        }
+    }
+
+    // Makes variables dearer where a row failed only after many others were tested: those that were decided since the rows were scored.
+    // They choose which row fails; once they are decided early, the same rows fail again and again, and these are tested first.
+    pub fn blame(&mut self, values: &[Option<bool>], tested: usize) {
+        let more = u32::try_from(tested / 16).unwrap_or(u32::MAX);
+        if more == 0 {
+            return;
+        }
+        for variable in 0..values.len() {
+            self.make_dearer(values, variable, more);
+        }
     }
 }

@@ -1,12 +1,8 @@
 -- The conflict's part worked in place: one law for each way out of the function, and what its calls need.
-use Prim.Native.Nat.{ℕ, ◌+◌, ◌-◌, ◌*◌, ◌/◌, ◌≤◌, ◌<◌}
-use mathlib.Core.Path.{◌≡◌, refl, sym, ap, ◌∙◌}
-use mathlib.Core.Bool.{Bool, true, false, ◌&&◌, not, cond, true≢false}
-use mathlib.Core.List.{◌++◌, append_assoc}
-use native.Mathlib.Omega.{arith}
-use lib.Dec.{ltb}
-use lib.ListN.{length, set, length-append}
-use lib.Seq.{set_at}
+use Rattle.std.proofs.Common.{ℕ, ◌+◌, ◌-◌, ◌*◌, ◌/◌, ◌≤◌, ◌<◌, ◌≡◌, refl, sym, ap, ◌∙◌, Bool, true, false, ◌&&◌, not, true≢false, ◌++◌, append_assoc}
+use Rattle.std.proofs.Common.{arith, ltb, length, set, length-append}
+use mir.Val.{bool_byte}
+use Rattle.std.proofs.lemmas.List.{set_at}
 use Rattle.preference.specs.Selection.{Selection, all, none}
 use Rattle.preference.specs.Question.{Question}
 use Rattle.preference.specs.Part.{Part}
@@ -16,9 +12,11 @@ use Rattle.preference.proofs.Selections.{length-all, length_none, all-add, none-
 use Rattle.preference.proofs.Trees.{half_cuts}
 use Rattle.preference.proofs.Few.{Few, conflict_asks_few}
 use Rattle.preference.proofs.Turns.{conflict_gives_nothing, conflict_gives_the_request, conflict_is_cut}
+use Rattle.explain.specs.declared.span.Span.{Span}
 use Rattle.explain.specs.Flags.{filled}
-use Rattle.explain.specs.Parts.{InGround, ConflictWorked}
+use Rattle.explain.specs.Parts.{Halved, InGround, ConflictWorked}
 use Rattle.explain.proofs.Filling.{fill_true, fill_false}
+use Rattle.explain.proofs.Halves.{one_question}
 
 -- a question that was asked and answered no; one that was answered yes, or not asked
 asked_no : (asking answer told : Bool) → told ≡ (asking && not answer) → told ≡ true → (asking ≡ true) × (answer ≡ false)
@@ -39,7 +37,7 @@ module _ (ok : Question) (from count : ℕ) (asking : Bool) (X : Selection) (tol
       let p = conflict_gives_nothing ok half half_cuts count from S some (rw g at a.1) in
       rw a.0 (rw p (record { set = g; found_is = refl; asked_is = refl }))
 
-  module _ (h : told ≡ false) (asked : ℕ) (counted : asked ≡ cond asking 1 0) where
+  module _ (h : told ≡ false) (asked : ℕ) (counted : asked ≡ bool_byte asking) where
     ground : (S : Selection) → X ≡ all from ++ (none count ++ S) → asking ≡ true → ok (all from ++ (none count ++ S)) ≡ true
     ground S g a = rw g at (asked_yes asking (ok X) told e h a)
 
@@ -52,7 +50,7 @@ module _ (ok : Question) (from count : ℕ) (asking : Bool) (X : Selection) (tol
         (record {
           set = rw (g, one) (set_at (all from) false S true from (length-all from));
           found_is = refl;
-          asked_is = counted;
+          asked_is = (one_question asking counted).0;
         })
 
 -- the second half's part: the first half is added to the ground
@@ -77,58 +75,6 @@ first_ground from h X F D e g =
     let x : X ≡ all from ++ (all h ++ D) = g ∙ rw (all-add, append_assoc) in
     e ∙ fill_false (all from) D X from h (length-all from) x
 
-module _ (ok : Question) (from count : ℕ) (X F1 : Selection) (ready : InGround from count X) (more : 2 ≤ count) (e1 : F1 ≡ filled from (count / 2) true X) where
-  pub second_ready : InGround (from + count / 2) (count - count / 2) F1
-  second_ready =
-      record {
-        some = omega arith;
-        S = ready.S;
-        ground = second_ground from count (count / 2) X F1 ready.S (omega arith) e1 ready.ground;
-      }
-
-  module _
-      (F2 F3 : Selection) (f2 a2 : ℕ)
-      (second : ConflictWorked ok (from + count / 2) (count - count / 2) true F1 F2 f2 a2)
-      (e3 : F3 ≡ filled from (count / 2) false F2) where
-    pub first_ready : InGround from (count / 2) F3
-    first_ready =
-        let l = second ready.S (second_ground from count (count / 2) X F1 ready.S (omega arith) e1 ready.ground) in
-        record {
-          some = omega arith;
-          S = (halve_conflict ok (middle (count - count / 2)) (from + count / 2) true ready.S).set;
-          ground = first_ground from (count / 2) F2 F3 _ e3 l.set;
-        }
-
--- the part is cut: both halves were worked
-pub is_cut :
-    (ok : Question) (from count : ℕ) (asking : Bool) (X : Selection) (told : Bool) →
-    told ≡ (asking && not (ok X)) →
-    told ≡ false →
-    (asked : ℕ) →
-    asked ≡ cond asking 1 0 →
-    2 ≤ count →
-    (F1 F2 F3 F4 : Selection) (f2 a2 f1 a1 sum : ℕ) →
-    sum ≡ asked + (a2 + a1) →
-    F1 ≡ filled from (count / 2) true X →
-    ConflictWorked ok (from + count / 2) (count - count / 2) true F1 F2 f2 a2 →
-    F3 ≡ filled from (count / 2) false F2 →
-    ConflictWorked ok from (count / 2) (ltb 0 f2) F3 F4 f1 a1 →
-    ConflictWorked ok from count asking X F4 (f2 + f1) sum
-is_cut ok from count asking X told e h asked counted more F1 F2 F3 F4 f2 a2 f1 a1 sum added e1 second e3 first S g =
-    let d2 : Part = halve_conflict ok (middle (count - count / 2)) (from + count / 2) true S in
-    let l2 = second S (second_ground from count (count / 2) X F1 S (omega arith) e1 g) in
-    let l1 = first d2.set (first_ground from (count / 2) F2 F3 d2.set e3 l2.set) in
-    let d1 : Part = halve_conflict ok (middle (count / 2)) from (ltb 0 f2) d2.set in
-    let p =
-    conflict_is_cut ok half half_cuts count from S more asking (ground ok from count asking X told e h asked counted S g) d2 d1 refl
-    (rw l2.found_is) in
-    rw (p, added)
-    (record {
-      set = l1.set;
-      found_is = omega (arith, l2.found_is, l1.found_is);
-      asked_is = omega (arith, counted, l2.asked_is, l1.asked_is);
-    })
-
 -- the sums of a part stay small
 pub few_in_conflict :
     (ok : Question) (from count : ℕ) (asking : Bool) (X F : Selection) (f a : ℕ) →
@@ -144,6 +90,85 @@ few_in_conflict ok from count asking X F f a ready worked =
     go false w x y = omega (arith, w.found, w.asked)
 
 -- the part lies within the flags
-pub part_within : (from count : ℕ) (X : Selection) → InGround from count X → from + count ≤ length X
-part_within from count X ready =
+pub part_within : {from count : ℕ} {X : Selection} → InGround from count X → from + count ≤ length X
+part_within ready =
     omega (arith, simp (length-append, length-all, length_none) at (ap length ready.ground))
+
+module _
+    {from count : ℕ} {first second : Span} {X F1 : Selection} (halved : Halved from count first second)
+    (ready : InGround from count X) (more : count ≡ 1 → ⊥) (added : F1 ≡ filled first.from first.count true X) where
+  two : 2 ≤ count
+  two = omega (arith, ready.some)
+
+  with_it : F1 ≡ filled from (count / 2) true X
+  with_it = rw halved.first_is at added
+
+  -- the second half's part
+  pub second_ready : InGround second.from second.count F1
+  second_ready =
+      rw halved.second_is
+      (record {
+        some = omega (arith, two);
+        S = ready.S;
+        ground = second_ground from count (count / 2) X F1 ready.S (omega arith) with_it ready.ground;
+      })
+
+  module _
+      (ok : Question) {F2 F3 : Selection} {f2 a2 : ℕ}
+      (worked : ConflictWorked ok second.from second.count true F1 F2 f2 a2)
+      (taken : F3 ≡ filled first.from first.count false F2) where
+    worked_second : ConflictWorked ok (from + count / 2) (count - count / 2) true F1 F2 f2 a2
+    worked_second = rw halved.second_is at worked
+
+    without_it : F3 ≡ filled from (count / 2) false F2
+    without_it = rw halved.first_is at taken
+
+    -- the first half's part
+    pub first_ready : InGround first.from first.count F3
+    first_ready =
+        let l = worked_second ready.S (second_ground from count (count / 2) X F1 ready.S (omega arith) with_it ready.ground) in
+        rw halved.first_is
+        (record {
+          some = omega (arith, two);
+          S = (halve_conflict ok (middle (count - count / 2)) (from + count / 2) true ready.S).set;
+          ground = first_ground from (count / 2) F2 F3 _ without_it l.set;
+        })
+
+    module _ (asking1 : Bool) {F4 : Selection} {f1 a1 : ℕ} (worked1 : ConflictWorked ok first.from first.count asking1 F3 F4 f1 a1) where
+      -- the sums of the two stay small
+      pub few_in_both : (f2 + f1 ≤ length X) × (a2 + a1 ≤ 2 * length X)
+      few_in_both =
+          omega (
+            arith,
+            few_in_conflict ok second.from second.count true F1 F2 f2 a2 second_ready worked,
+            few_in_conflict ok first.from first.count asking1 F3 F4 f1 a1 first_ready worked1,
+            ap (λ (s : Span). s.count) halved.first_is,
+            ap (λ (s : Span). s.count) halved.second_is,
+            part_within ready,
+          )
+
+      -- the part is cut: both halves were worked
+      pub is_cut :
+          asking1 ≡ ltb 0 f2 →
+          (asking told : Bool) →
+          told ≡ (asking && not (ok X)) →
+          told ≡ false →
+          (asked : ℕ) →
+          asked ≡ bool_byte asking →
+          (sum : ℕ) →
+          sum ≡ asked + (a2 + a1) →
+          ConflictWorked ok from count asking X F4 (f2 + f1) sum
+      is_cut same asking told e h asked counted sum both S g =
+          let d2 : Part = halve_conflict ok (middle (count - count / 2)) (from + count / 2) true S in
+          let l2 = worked_second S (second_ground from count (count / 2) X F1 S (omega arith) with_it g) in
+          let l1 = (rw (halved.first_is, same) at worked1) d2.set (first_ground from (count / 2) F2 F3 d2.set without_it l2.set) in
+          let d1 : Part = halve_conflict ok (middle (count / 2)) from (ltb 0 f2) d2.set in
+          let p =
+          conflict_is_cut ok half half_cuts count from S two asking (ground ok from count asking X told e h asked counted S g) d2 d1 refl
+          (rw l2.found_is) in
+          rw (p, both)
+          (record {
+            set = l1.set;
+            found_is = omega (arith, l2.found_is, l1.found_is);
+            asked_is = omega (arith, (one_question asking counted).0, l2.asked_is, l1.asked_is);
+          })

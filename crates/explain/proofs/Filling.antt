@@ -1,37 +1,23 @@
--- One turn of the loop that sets a run of flags, and what the run is in the end.
-use Prim.Native.Nat.{ℕ, zero, suc, ◌+◌, ◌-◌, ◌≤◌, ◌<◌}
-use mathlib.Core.Path.{◌≡◌, refl, sym, ap, ◌∙◌}
-use mathlib.Core.Bool.{Bool, true, false}
-use mathlib.Core.List.{List, ◌++◌, append_assoc, append-nil}
-use native.Mathlib.Omega.{arith}
-use native.Mathlib.Nat.{zero-add}
-use native.Mathlib.Numerals.{add-one}
-use lib.ListN.{length, drop, set, replicate, length-replicate}
-use lib.Seq.{sets, sets-eq, drop-drop, drop-length, take_at, drop_at}
+-- Runs of flags that are set, and what the flags are in the end.
+use Rattle.std.proofs.Common.{ℕ, ◌+◌, ◌≤◌, ◌≡◌, refl, sym, ap, ◌∙◌, Bool, true, false, List, ◌++◌, arith}
+use Rattle.std.proofs.Common.{take, length-drop, length-take-le, length, drop, set, replicate, drop-drop, take_at, drop_at}
+use borrow.Rule.Slice.PartMut.{put_mid}
 use Rattle.preference.specs.Selection.{Selection, all, none}
 use Rattle.preference.proofs.Selections.{length-all, length_none}
 use Rattle.explain.specs.Flags.{filled}
 
-module _ (value : Bool) where
-  -- a run that is not empty is one flag and the rest
-  pub fill_turn :
-      (left : ℕ) (X : List Bool) (at : ℕ) →
-      0 < left →
-      sets (set X at value) (at + 1) (replicate (left - 1) value) ≡ sets X at (replicate left value)
-  fill_turn zero X at h = absurd (omega arith)
-  fill_turn (suc left) X at h = let e : suc left - 1 ≡ left = omega arith in rw (e, add-one)
-
-  -- no flag is left to set
-  pub fill_none : (left : ℕ) (X : List Bool) (at : ℕ) → left ≤ 0 → X ≡ sets X at (replicate left value)
-  fill_none zero X at h = refl
-  fill_none (suc left) X at h = absurd (omega arith)
-
-  -- what all the turns make
-  pub fill_is : (from count : ℕ) (X : List Bool) → from + count ≤ length X → sets X from (replicate count value) ≡ filled from count value X
-  unfolding filled
-  fill_is from count X h =
-      let e = length-replicate count value in
-      sets-eq (replicate count value) X from (rw e h) ∙ rw (e, append_assoc)
+-- a run of the flags that was filled
+pub fill_is :
+    (value : Bool) (from count count' : ℕ) (X F : List Bool) →
+    count' ≡ count →
+    from + count ≤ length X →
+    F ≡ replicate (length (take count' (drop from X))) value →
+    put_mid from count' X F ≡ filled from count value X
+unfolding filled
+fill_is value from count count' X F g h set =
+    let f : F ≡ replicate (length (take count (drop from X))) value = rw g at set in
+    let long : length (take count (drop from X)) ≡ count = length-take-le count (drop from X) (simp length-drop (omega arith)) in
+    rw (g, f, long, drop-drop count from X) refl
 
 -- what is behind two runs
 past : (A B C : List Bool) (a b : ℕ) → length A ≡ a → length B ≡ b → drop (a + b) (A ++ (B ++ C)) ≡ C
@@ -55,8 +41,3 @@ fill_true A C X from count a e = fill_part true A (none count) C X from count a 
 pub fill_false : (A C X : Selection) (from count : ℕ) → length A ≡ from → X ≡ A ++ (all count ++ C) → filled from count false X ≡ A ++ (none count ++ C)
 unfolding all none
 fill_false A C X from count a e = fill_part false A (all count) C X from count a (length-all count) e
-
--- all the flags are set
-pub fill_all : (value : Bool) (X : List Bool) → filled 0 (length X) value X ≡ replicate (length X) value
-unfolding filled
-fill_all value X = rw (zero-add, drop-length X, append-nil)

@@ -1,10 +1,5 @@
 -- The four methods in place by name: what each is handed after the start, and the whole answer.
-use Prim.Native.Nat.{ℕ, ◌+◌, ◌≤◌, ◌<◌}
-use mathlib.Core.Path.{◌≡◌, refl, sym, ◌∙◌}
-use mathlib.Core.Bool.{false}
-use mathlib.Core.List.{[], ◌++◌, append-nil}
-use native.Mathlib.Omega.{arith}
-use lib.ListN.{length}
+use Rattle.std.proofs.Common.{ℕ, ◌+◌, ◌≤◌, ◌<◌, ◌≡◌, refl, sym, ◌∙◌, false, [], ◌++◌, append-nil, arith, length}
 use Rattle.preference.specs.Selection.{Selection, all, none}
 use Rattle.preference.specs.Question.{Question}
 use Rattle.preference.specs.Cut.{middle}
@@ -72,9 +67,9 @@ module _ (method : Method) (ok : Question) (n : ℕ) (begun : Begun) (F : Select
   start_is = answer_is method ok n ∙ begins.answer (whole_by method n) (worked_by method ok n)
 
   -- all can stand
-  pub answers-all : begun ≡ AllStand → (G : Selection) → G ≡ whole_by method n → Answers (answer_by method ok n) n G 0 1
+  pub answers_all : begun ≡ AllStand → (G : Selection) → G ≡ whole_by method n → Answers (answer_by method ok n) n G 0 1
   unfolding finished
-  answers-all b G e = record { is = rw (start_is, b, e); small_status = omega arith; few_asked = omega arith }
+  answers_all b G e = record { is = rw (start_is, b, e); small_status = omega arith; few_asked = omega arith }
 
   -- the host cannot
   pub answers_host_fails : (asked : ℕ) → begun ≡ HostFails asked → Answers (answer_by method ok n) n F 2 asked

@@ -1,14 +1,7 @@
 -- The chosen requests of an order, marked in a list by request number.
-use Prim.Native.Nat.{ℕ, ◌+◌, ◌≤◌, ◌<◌}
-use mathlib.Core.Path.{◌≡◌, refl, ◌∙◌}
-use mathlib.Core.Bool.{Bool, true, false, ◌||◌}
-use mathlib.Core.List.{List, [], ◌∷◌}
-use native.Mathlib.Omega.{arith}
-use native.Mathlib.Numerals.{add-one}
-use lib.Dec.{eqb, ltb, leb}
-use lib.ListN.{length, get_or, drop, set, length-set, drop_of_length-le}
-use lib.Seq.{drop-cons, get_or-set_same, get_or-set_other}
-use borrow.Author.Tests.{ltb-true, eqb-true, eqb-false}
+use Rattle.std.proofs.Common.{sym, ap, ◌⊎◌, inl, inr, ℕ, ◌<◌, ◌≡◌, refl, ◌∙◌, Bool, true, false, ◌||◌, List, [], ◌∷◌, arith, eqb, ltb, leb, length, get_or}
+use Rattle.std.proofs.Common.{set, length-set, get_or-set_same, get_or-set_other, ltb-true, eqb-true}
+use Rattle.std.proofs.lemmas.Bool.{eqb-false}
 use Rattle.table.specs.Lists.{every, among}
 use Rattle.table.specs.Limits.{within}
 use Rattle.table.proofs.Steps.{both}
@@ -16,21 +9,47 @@ use Rattle.preference.specs.Selection.{Selection}
 use Rattle.preference.specs.Named.{named}
 use Rattle.explain.specs.Asking.{marked}
 
-module _ (order : List ℕ) (X : Selection) (i : ℕ) (d : ℕ) (b : Bool) (same : length X ≡ length order) (more : i < length order) where
-  -- the request at a place is named where it is chosen
-  pub named_chosen : get_or X i b ≡ true → named (drop i order) (drop i X) ≡ get_or order i d ∷ named (drop (i + 1) order) (drop (i + 1) X)
-  unfolding named
-  named_chosen e = rw (add-one, drop-cons order i d more, drop-cons X i b (omega arith), e)
+-- what is left of an order and its flags is marked over `now`, as the whole of them over `entry`
+pub record MarksLeft (order : List ℕ) (X : Selection) (now entry : List Bool) (left : List ℕ) (flags : Selection) : Type 0 where
+  pub long : length now ≡ length entry
+  pub fits : every (within 0 (length entry)) left ≡ true
+  pub same : marked (named left flags) now ≡ marked (named order X) entry
 
-  -- and passed over where it is not
-  pub named_left_out : get_or X i b ≡ false → named (drop i order) (drop i X) ≡ named (drop (i + 1) order) (drop (i + 1) X)
-  unfolding named
-  named_left_out e = rw (add-one, drop-cons order i d more, drop-cons X i b (omega arith), e)
-
--- past the end nothing is named
-pub none_named : (order : List ℕ) (X : Selection) (i : ℕ) → length order ≤ i → named (drop i order) (drop i X) ≡ []
+-- an order and its flags have an end, and nothing is named behind it
+none_named : (left : List ℕ) (flags : Selection) → (length left ≡ 0) ⊎ (length flags ≡ 0) → named left flags ≡ []
 unfolding named
-none_named order X i h = rw (drop_of_length-le order h)
+none_named [] flags e = refl
+none_named (request ∷ left) [] e = refl
+none_named (request ∷ left) (chosen ∷ flags) (inl e) = absurd (omega arith)
+none_named (request ∷ left) (chosen ∷ flags) (inr e) = absurd (omega arith)
+
+module _ {order : List ℕ} {X : Selection} {now entry : List Bool} {left : List ℕ} {flags : Selection} (marks : MarksLeft order X now entry left flags) where
+  -- no request is left
+  pub all_marked : (length left ≡ 0) ⊎ (length flags ≡ 0) → now ≡ marked (named order X) entry
+  unfolding marked
+  all_marked e = sym (ap (λ (l : List ℕ). marked l now) (none_named left flags e)) ∙ marks.same
+
+  module _ {request : ℕ} {more : List ℕ} {chosen : Bool} {rest : Selection} (e : left ≡ request ∷ more) (g : flags ≡ chosen ∷ rest) where
+    parted : (within 0 (length entry) request ≡ true) × (every (within 0 (length entry)) more ≡ true)
+    parted = both (within 0 (length entry) request) (every (within 0 (length entry)) more) (rw e at marks.fits)
+
+    -- the next request is an entry of the list
+    pub entry_within : request < length now
+    unfolding within
+    entry_within =
+        let b = ltb-true request (length entry) (both (leb 0 request) (ltb request (length entry)) parted.0).1 in
+        omega (arith, marks.long, b)
+
+    -- it is chosen, and marked
+    pub one_marked : chosen ≡ true → {number : ℕ} → number ≡ request → MarksLeft order X (set now number true) entry more rest
+    unfolding named marked
+    one_marked is_true {number = number} is =
+        record { long = length-set now number true ∙ marks.long; fits = parted.1; same = rw is (rw (e, g, is_true) at marks.same) }
+
+    -- or it is passed over
+    pub one_passed : chosen ≡ false → MarksLeft order X now entry more rest
+    unfolding named
+    one_passed is_false = record { long = marks.long; fits = parted.1; same = rw (e, g, is_false) at marks.same }
 
 pub length_marked : (requests : List ℕ) (chosen : List Bool) → length (marked requests chosen) ≡ length chosen
 unfolding marked
@@ -58,7 +77,7 @@ pub marked_reads :
     (requests : List ℕ) (chosen : List Bool) (role : ℕ) →
     every (within 0 (length chosen)) requests ≡ true →
     get_or (marked requests chosen) role false ≡ (among role requests || get_or chosen role false)
-unfolding marked among every within
+unfolding marked within
 marked_reads [] chosen role h = refl
 marked_reads (request ∷ more) chosen role h =
     let g = both (within 0 (length chosen) request) (every (within 0 (length chosen)) more) h in
@@ -69,7 +88,7 @@ marked_reads (request ∷ more) chosen role h =
 
 -- what is named of an order stands in the order
 pub every_named : (test : ℕ → Bool) (order : List ℕ) (X : Selection) → every test order ≡ true → every test (named order X) ≡ true
-unfolding every named
+unfolding named
 every_named test [] X h = refl
 every_named test (request ∷ order) [] h = refl
 every_named test (request ∷ order) (true ∷ X) h =

@@ -1,11 +1,7 @@
 -- The relaxation's part worked in place: one law for each way out of its functions, and what their calls need.
-use Prim.Native.Nat.{ℕ, ◌+◌, ◌-◌, ◌*◌, ◌/◌, ◌≤◌, ◌<◌}
-use mathlib.Core.Path.{◌≡◌, refl, sym, ap, ◌∙◌}
-use mathlib.Core.Bool.{Bool, true, false, ◌&&◌, cond, true≢false}
-use mathlib.Core.List.{[], ◌∷◌, ◌++◌, append_assoc}
-use native.Mathlib.Omega.{arith}
-use lib.Dec.{ltb}
-use lib.ListN.{length, length-append}
+use Rattle.std.proofs.Common.{ℕ, ◌+◌, ◌-◌, ◌*◌, ◌/◌, ◌≤◌, ◌<◌, ◌≡◌, refl, sym, ap, ◌∙◌, Bool, true, false, ◌&&◌, true≢false, [], ◌∷◌, ◌++◌}
+use Rattle.std.proofs.Common.{append_assoc, arith, ltb, length, length-append}
+use mir.Val.{bool_byte}
 use Rattle.preference.specs.Selection.{Selection, all, none}
 use Rattle.preference.specs.Question.{Question}
 use Rattle.preference.specs.Part.{Part}
@@ -16,9 +12,11 @@ use Rattle.preference.proofs.Trees.{half_cuts, size-tree}
 use Rattle.preference.proofs.Lengths.{length_halve_relax}
 use Rattle.preference.proofs.Few.{Few, relax_asks_few}
 use Rattle.preference.proofs.Turns.{relax_keeps_the_part, relax_drops_the_request, relax_is_cut}
+use Rattle.explain.specs.declared.span.Span.{Span}
 use Rattle.explain.specs.Flags.{filled}
-use Rattle.explain.specs.Parts.{OutOfGround, RelaxationWorked, WholeTried}
+use Rattle.explain.specs.Parts.{Halved, OutOfGround, RelaxationWorked, WholeTried}
 use Rattle.explain.proofs.Filling.{fill_true, fill_false}
+use Rattle.explain.proofs.Halves.{one_question}
 
 module _ (ok : Question) (from count : ℕ) (asking : Bool) (X : Selection) where
   -- the part was not to be asked
@@ -46,8 +44,8 @@ module _ (ok : Question) (from count : ℕ) (asking : Bool) (X : Selection) wher
         }
 
 -- the part lies within the flags
-pub out_within : (from count : ℕ) (X : Selection) → OutOfGround from count X → from + count ≤ length X
-out_within from count X ready =
+pub out_within : {from count : ℕ} {X : Selection} → OutOfGround from count X → from + count ≤ length X
+out_within ready =
     omega (arith, ready.long, simp (length-append, length_none) at (ap length ready.ground))
 
 asked_yes : (asking answer : Bool) → true ≡ (asking && answer) → (asking ≡ true) × (answer ≡ true)
@@ -67,7 +65,7 @@ module _ (ok : Question) (from count : ℕ) (asking : Bool) (X F : Selection) (t
       let p = relax_keeps_the_part ok half half_cuts P count after some a.1 in
       rw a.0 (rw p (record { set = t.kept h ∙ sym (append_assoc P (all count) (none after)); found_is = refl; asked_is = refl }))
 
-  module _ (h : told ≡ false) (asked : ℕ) (counted : asked ≡ cond asking 1 0) where
+  module _ (h : told ≡ false) (asked : ℕ) (counted : asked ≡ bool_byte asking) where
     fails : (P : Selection) (after : ℕ) → length P ≡ from → X ≡ P ++ (none count ++ none after) → asking ≡ true → ok (P ++ (all count ++ none after)) ≡ false
     fails P after l g a = asked_no asking _ (sym h ∙ (tried P after l g).told_is) a
 
@@ -80,7 +78,7 @@ module _ (ok : Question) (from count : ℕ) (asking : Bool) (X F : Selection) (t
         (record {
           set = rw one at ((tried P after l g).left_out h) ∙ sym (append_assoc P (false ∷ []) (none after));
           found_is = refl;
-          asked_is = counted;
+          asked_is = (one_question asking counted).0;
         })
 
 -- the first half's part: the rest comes after it
@@ -100,70 +98,6 @@ long_kept : (ok : Question) (from h after : ℕ) (P : Selection) → 0 < h → l
 long_kept ok from h after P some l =
     length_halve_relax ok (middle h) P after true ∙ rw (l, size-tree half half_cuts h some)
 
-module _
-    (ok : Question) (from count : ℕ) (asking : Bool) (X F : Selection) (told : Bool)
-    (ready : OutOfGround from count X) (more : 2 ≤ count) (tried : WholeTried ok from count asking X F told) (no : told ≡ false) where
-  pub first_ready : OutOfGround from (count / 2) F
-  first_ready =
-      record {
-        some = omega arith;
-        P = ready.P;
-        after = (count - count / 2) + ready.after;
-        long = ready.long;
-        ground =
-            first_ground count (count / 2) ready.after F ready.P (omega arith)
-            ((tried ready.P ready.after ready.long ready.ground).left_out no);
-      }
-
-  module _ (F1 : Selection) (f1 a1 : ℕ) (first : RelaxationWorked ok from (count / 2) true F F1 f1 a1) where
-    pub second_ready : OutOfGround (from + count / 2) (count - count / 2) F1
-    second_ready =
-        let l =
-        first ready.P ((count - count / 2) + ready.after) ready.long
-        (first_ground count (count / 2) ready.after F ready.P (omega arith)
-        ((tried ready.P ready.after ready.long ready.ground).left_out no)) in
-        record {
-          some = omega arith;
-          P = (halve_relax ok (middle (count / 2)) ready.P ((count - count / 2) + ready.after) true).set;
-          after = ready.after;
-          long = long_kept ok from (count / 2) ((count - count / 2) + ready.after) ready.P (omega arith) ready.long;
-          ground =
-              second_ground (count - count / 2) ready.after F1
-              (halve_relax ok (middle (count / 2)) ready.P ((count - count / 2) + ready.after) true).set
-              l.set;
-        }
-
--- the part is cut: both halves were worked, and the second was asked about where the first one dropped something
-pub is_cut :
-    (ok : Question) (from count : ℕ) (asking : Bool) (X F : Selection) (told : Bool) →
-    WholeTried ok from count asking X F told →
-    told ≡ false →
-    (asked : ℕ) →
-    asked ≡ cond asking 1 0 →
-    2 ≤ count →
-    (F1 F2 : Selection) (f1 a1 f2 a2 : ℕ) →
-    RelaxationWorked ok from (count / 2) true F F1 f1 a1 →
-    (dropping : Bool) →
-    RelaxationWorked ok (from + count / 2) (count - count / 2) dropping F1 F2 f2 a2 →
-    dropping ≡ ltb 0 f1 →
-    RelaxationWorked ok from count asking X F2 (f1 + f2) (asked + (a1 + a2))
-is_cut ok from count asking X F told tried h asked counted more F1 F2 f1 a1 f2 a2 first dropping worked same P after l g =
-    let second = rw same at worked in
-    let rest : ℕ = count - count / 2 in
-    let k1 : Part = halve_relax ok (middle (count / 2)) P (rest + after) true in
-    let l1 = first P (rest + after) l (first_ground count (count / 2) after F P (omega arith) ((tried P after l g).left_out h)) in
-    let l2 = second k1.set after (long_kept ok from (count / 2) (rest + after) P (omega arith) l) (second_ground rest after F1 k1.set l1.set) in
-    let k2 : Part = halve_relax ok (middle rest) k1.set after (ltb 0 f1) in
-    let p =
-    relax_is_cut ok half half_cuts P count after more asking (fails ok from count asking X F told tried h asked counted P after l g) k1 k2 refl
-    (rw l1.found_is) in
-    rw p
-    (record {
-      set = l2.set;
-      found_is = omega (arith, l1.found_is, l2.found_is);
-      asked_is = omega (arith, counted, l1.asked_is, l2.asked_is);
-    })
-
 -- the sums of a part stay small
 pub few_in_relaxation :
     (ok : Question) (from count : ℕ) (asking : Bool) (X F : Selection) (f a : ℕ) →
@@ -177,3 +111,82 @@ few_in_relaxation ok from count asking X F f a ready worked =
     go : (b : Bool) {p : Part} → Few b count p → f ≡ p.found → a ≡ p.asked → (f ≤ count) × (a ≤ 2 * count)
     go true w x y = omega (arith, w.found, w.asked)
     go false w x y = omega (arith, w.found, w.asked)
+
+module _
+    {from count : ℕ} {first second : Span} {asking told : Bool} {X F : Selection} (halved : Halved from count first second)
+    (ready : OutOfGround from count X) (more : count ≡ 1 → ⊥)
+    (ok : Question) (tried : WholeTried ok from count asking X F told) (no : told ≡ false) where
+  two : 2 ≤ count
+  two = omega (arith, ready.some)
+
+  left : F ≡ ready.P ++ (none (count / 2) ++ none ((count - count / 2) + ready.after))
+  left =
+      first_ground count (count / 2) ready.after F ready.P (omega arith)
+      ((tried ready.P ready.after ready.long ready.ground).left_out no)
+
+  -- the first half's part
+  pub first_ready : OutOfGround first.from first.count F
+  first_ready =
+      rw halved.first_is
+      (record { some = omega (arith, two); P = ready.P; after = (count - count / 2) + ready.after; long = ready.long; ground = left })
+
+  module _ {F1 : Selection} {f1 a1 : ℕ} (worked : RelaxationWorked ok first.from first.count true F F1 f1 a1) where
+    worked_first : RelaxationWorked ok from (count / 2) true F F1 f1 a1
+    worked_first = rw halved.first_is at worked
+
+    -- the second half's part
+    pub second_ready : OutOfGround second.from second.count F1
+    second_ready =
+        let l = worked_first ready.P ((count - count / 2) + ready.after) ready.long left in
+        rw halved.second_is
+        (record {
+          some = omega (arith, two);
+          P = (halve_relax ok (middle (count / 2)) ready.P ((count - count / 2) + ready.after) true).set;
+          after = ready.after;
+          long = long_kept ok from (count / 2) ((count - count / 2) + ready.after) ready.P (omega (arith, two)) ready.long;
+          ground =
+              second_ground (count - count / 2) ready.after F1
+              (halve_relax ok (middle (count / 2)) ready.P ((count - count / 2) + ready.after) true).set
+              l.set;
+        })
+
+    module _ (dropping : Bool) {F2 : Selection} {f2 a2 : ℕ} (worked2 : RelaxationWorked ok second.from second.count dropping F1 F2 f2 a2) where
+      -- the sums of the two stay small
+      pub few_in_both : (f1 + f2 ≤ length X) × (a1 + a2 ≤ 2 * length X)
+      few_in_both =
+          omega (
+            arith,
+            few_in_relaxation ok first.from first.count true F F1 f1 a1 first_ready worked,
+            few_in_relaxation ok second.from second.count dropping F1 F2 f2 a2 second_ready worked2,
+            ap (λ (s : Span). s.count) halved.first_is,
+            ap (λ (s : Span). s.count) halved.second_is,
+            out_within ready,
+          )
+
+      -- the part is cut: both halves were worked, and the second was asked about where the first one dropped something
+      pub is_cut :
+          dropping ≡ ltb 0 f1 →
+          (asked : ℕ) →
+          asked ≡ bool_byte asking →
+          RelaxationWorked ok from count asking X F2 (f1 + f2) (asked + (a1 + a2))
+      is_cut same asked counted P after l g =
+          let rest : ℕ = count - count / 2 in
+          let k1 : Part = halve_relax ok (middle (count / 2)) P (rest + after) true in
+          let l1 =
+          worked_first P (rest + after) l
+          (first_ground count (count / 2) after F P (omega arith) ((tried P after l g).left_out no)) in
+          let l2 =
+          (rw (halved.second_is, same) at worked2) k1.set after
+          (long_kept ok from (count / 2) (rest + after) P (omega (arith, two)) l)
+          (second_ground rest after F1 k1.set l1.set) in
+          let k2 : Part = halve_relax ok (middle rest) k1.set after (ltb 0 f1) in
+          let p =
+          relax_is_cut ok half half_cuts P count after two asking
+          (fails ok from count asking X F told tried no asked counted P after l g) k1 k2 refl
+          (rw l1.found_is) in
+          rw p
+          (record {
+            set = l2.set;
+            found_is = omega (arith, l1.found_is, l2.found_is);
+            asked_is = omega (arith, (one_question asking counted).0, l1.asked_is, l2.asked_is);
+          })

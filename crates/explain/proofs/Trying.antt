@@ -1,11 +1,8 @@
 -- One by one in place: what holds before each request is tried, and in the end.
-use Prim.Native.Nat.{ℕ, suc, ◌+◌, ◌-◌, ◌≤◌, ◌<◌}
-use mathlib.Core.Path.{◌≡◌, refl, sym, ap, ◌∙◌}
-use mathlib.Core.Bool.{Bool, true, false}
-use mathlib.Core.List.{[], ◌∷◌, ◌++◌, append_assoc, append-nil}
-use native.Mathlib.Omega.{arith}
-use lib.ListN.{length, set, length-set, length-append}
-use lib.Seq.{set_at}
+use Rattle.std.proofs.Common.{replicate, ℕ, suc, ◌+◌, ◌-◌, ◌≤◌, ◌<◌, ◌≡◌, refl, sym, ap, ◌∙◌, Bool}
+use Rattle.std.proofs.Common.{true, false, [], ◌∷◌, ◌++◌, append_assoc, append-nil, arith, length}
+use Rattle.std.proofs.Common.{set, length-set, length-append}
+use Rattle.std.proofs.lemmas.List.{set_at}
 use Rattle.preference.specs.Selection.{Selection, all, none}
 use Rattle.preference.specs.Question.{Question}
 use Rattle.preference.specs.Part.{Part}
@@ -13,9 +10,7 @@ use Rattle.preference.specs.OneByOne.{one_conflict, one_relax}
 use Rattle.preference.proofs.Selections.{length-all, length_none, all_then_all}
 use Rattle.preference.proofs.Preferred.{one_conflict_asks_each, one_relax_asks_each}
 use Rattle.preference.proofs.Turns.{one_conflict_done, one_conflict_turn, one_relax_done, one_relax_turn}
-use Rattle.explain.specs.Flags.{filled}
-use Rattle.explain.specs.Parts.{Worked}
-use Rattle.explain.proofs.Filling.{fill_all}
+use Rattle.explain.specs.Parts.{Worked, tried_at}
 
 -- the conflict: the first `left` requests are still to be tried, and S is what was decided of those after them
 pub record Removing (ok : Question) (n : ℕ) (X : Selection) (asked left : ℕ) : Type 0 where
@@ -26,15 +21,14 @@ pub record Removing (ok : Question) (n : ℕ) (X : Selection) (asked left : ℕ)
   pub same : (one_conflict ok left S).set ≡ (one_conflict ok n []).set
 
 module _ (ok : Question) where
-  pub removing_begins : (X F : Selection) → F ≡ filled 0 (length X) true X → Removing ok (length X) F 0 (length X)
+  pub removing_begins : (n : ℕ) (F : Selection) → F ≡ replicate n true → Removing ok n F 0 n
   unfolding all
-  removing_begins X F e =
-      let f : F ≡ all (length X) = e ∙ fill_all true X in
+  removing_begins n F f =
       record {
-        long = rw f (length-all (length X));
+        long = rw f (length-all n);
         counted = omega arith;
         S = [];
-        ground = f ∙ sym (append-nil (all (length X)));
+        ground = f ∙ sym (append-nil (all n));
         same = refl;
       }
 
@@ -47,17 +41,19 @@ module _ (ok : Question) where
 
     -- one request is tried
     pub removing_turns :
-        (keep : Bool) → keep ≡ ok (set X (left - 1) false) → Removing ok n (set (set X (left - 1) false) (left - 1) keep) (asked + 1) (left - 1)
-    removing_turns keep e =
-        record {
+        (F : Selection) → F ≡ tried_at ok (left - 1) false X → Removing ok n F (asked + 1) (left - 1)
+    removing_turns F f =
+        let keep : Bool = ok (set X (left - 1) false) in
+        rw f
+        (record {
           long = length-set (set X (left - 1) false) (left - 1) keep ∙ length-set X (left - 1) false ∙ r.long;
           counted = omega (arith, r.counted);
           S = keep ∷ r.S;
           ground =
               ap (λ (Y : Selection). set Y (left - 1) keep) without
               ∙ set_at (all (left - 1)) false r.S keep (left - 1) (length-all (left - 1));
-          same = sym (ap (λ (p : Part). p.set) (one_conflict_turn ok left r.S keep more (sym (e ∙ ap ok without)))) ∙ r.same;
-        }
+          same = sym (ap (λ (p : Part). p.set) (one_conflict_turn ok left r.S keep more (sym (ap ok without)))) ∙ r.same;
+        })
 
   -- none is left to try
   pub removing_done : (n : ℕ) (X : Selection) (asked left : ℕ) → Removing ok n X asked left → left ≤ 0 → Worked (one_conflict ok n []) X asked
@@ -81,13 +77,12 @@ pub record Adding (ok : Question) (n : ℕ) (X : Selection) (asked place : ℕ) 
   pub same : (one_relax ok P (n - place)).set ≡ (one_relax ok [] n).set
 
 module _ (ok : Question) where
-  pub adding_begins : (X F : Selection) → F ≡ filled 0 (length X) false X → Adding ok (length X) F 0 0
+  pub adding_begins : (n : ℕ) (F : Selection) → F ≡ replicate n false → Adding ok n F 0 0
   unfolding none
-  adding_begins X F e =
-      let f : F ≡ none (length X) = e ∙ fill_all false X in
-      let z : length X - 0 ≡ length X = omega arith in
+  adding_begins n F f =
+      let z : n - 0 ≡ n = omega arith in
       record {
-        long = rw f (length_none (length X));
+        long = rw f (length_none n);
         counted = refl;
         within = omega arith;
         P = [];
@@ -105,10 +100,12 @@ module _ (ok : Question) where
     added = ap (λ (Y : Selection). set Y place true) next ∙ set_at r.P false (none (n - place - 1)) true place r.decided
 
     -- one request is tried
-    pub adding_turns : (keep : Bool) → keep ≡ ok (set X place true) → Adding ok n (set (set X place true) place keep) (asked + 1) (place + 1)
-    adding_turns keep e =
+    pub adding_turns : (F : Selection) → F ≡ tried_at ok place true X → Adding ok n F (asked + 1) (place + 1)
+    adding_turns F f =
+        let keep : Bool = ok (set X place true) in
         let one : n - (place + 1) ≡ n - place - 1 = omega arith in
-        record {
+        rw f
+        (record {
           long = length-set (set X place true) place keep ∙ length-set X place true ∙ r.long;
           counted = omega (arith, r.counted);
           within = omega arith;
@@ -120,13 +117,13 @@ module _ (ok : Question) where
               ∙ rw (one, append_assoc);
           same =
               rw one
-              (sym (ap (λ (p : Part). p.set) (one_relax_turn ok r.P (n - place) keep (omega arith) (sym (e ∙ ap ok added)))) ∙ r.same);
-        }
+              (sym (ap (λ (p : Part). p.set) (one_relax_turn ok r.P (n - place) keep (omega arith) (sym (ap ok added)))) ∙ r.same);
+        })
 
   -- none is left to try
-  pub adding-done : (n : ℕ) (X : Selection) (asked place : ℕ) → Adding ok n X asked place → n ≤ place → Worked (one_relax ok [] n) X asked
+  pub adding_done : (n : ℕ) (X : Selection) (asked place : ℕ) → Adding ok n X asked place → n ≤ place → Worked (one_relax ok [] n) X asked
   unfolding none
-  adding-done n X asked place r h =
+  adding_done n X asked place r h =
       let z : n - place ≡ 0 = omega arith in
       record {
         set =

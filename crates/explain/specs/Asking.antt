@@ -1,9 +1,8 @@
 -- The question of a table and an order: can the chosen requests stand? (document 01, "Meaning")
-use Rattle.std.specs.Prelude.{ℕ, ◌≤◌, ◌≡◌, Bool, true, List, [], ◌∷◌, length, set}
+use Rattle.std.specs.Prelude.{ℕ, Bool, true, List, [], ◌∷◌, set}
 use Rattle.table.specs.declared.record.Frame.{Frame}
 use Rattle.table.specs.Lists.{among}
-use Rattle.table.specs.Limits.{most_requests, order_in_range}
-use Rattle.table.specs.Kept.{Kept, rows_of}
+use Rattle.table.specs.Kept.{rows_of}
 use Rattle.meaning.specs.Stands.{stands}
 use Rattle.preference.specs.Selection.{Selection}
 use Rattle.preference.specs.Question.{Question}
@@ -16,13 +15,6 @@ chosen_by order X request = among request (named order X)
 -- the question of a table with this frame and an order
 unfoldable pub question_of : List ℕ → Frame → List ℕ → Question
 question_of t f order X = stands (rows_of t f) f.variables (chosen_by order X)
-
--- the table keeps its frame, the order names requests of it, and there is a flag for each place of the order
-pub record Lent (t : List ℕ) (f : Frame) (order : List ℕ) (X : Selection) : Type 0 where
-  pub kept : Kept t f
-  pub numbers : order_in_range f.requests order ≡ true
-  pub few : length order ≤ most_requests
-  pub each : length X ≡ length order
 
 -- the list with the entries of these requests true
 unfoldable pub marked : List ℕ → List Bool → List Bool

@@ -12,6 +12,8 @@ use Rattle.explain.specs.declared.answers.Method.{Method}
 use Rattle.explain.specs.declared.answers.Method.TheVariants.{ConflictByHalving, ConflictOneByOne, RelaxationByHalving, RelaxationOneByOne}
 use Rattle.explain.specs.declared.answers.Begun.{Begun}
 use Rattle.explain.specs.declared.answers.Begun.TheVariants.{AllStand, HostFails, Open}
+use Rattle.explain.specs.declared.answers.Status.{Status}
+use Rattle.explain.specs.declared.answers.Status.TheVariants as status
 
 -- the answer of a method to a question about n requests
 unfoldable pub answer_by : Method → Question → ℕ → Answer
@@ -46,6 +48,12 @@ unfoldable pub finished : Begun → ℕ → Selection → Part → Answer
 finished AllStand n whole worked = record { status = 0; set = whole; asked = 1 }
 finished (HostFails asked) n whole worked = record { status = 2; set = none n; asked = asked }
 finished Open n whole worked = record { status = 1; set = worked.set; asked = 2 + worked.asked }
+
+-- the number of a status in a report (document 01, "The report")
+abbrev pub number_of : Status → ℕ
+number_of status.AllStand = 0
+number_of status.NotAllStand = 1
+number_of status.HostFails = 2
 
 -- the flags after the start, where it leaves the method to go on from
 unfoldable pub left_by : Begun → ℕ → Selection

@@ -1,10 +1,16 @@
 -- What working a part of the requests in place must give: the part's definition in the crate `preference`.
-use Rattle.std.specs.Prelude.{ℕ, ◌*◌, ◌<◌, ◌≤◌, ◌≡◌, Bool, true, false, ◌&&◌, ◌++◌, length}
+use Rattle.std.specs.Prelude.{ℕ, ◌+◌, ◌-◌, ◌/◌, ◌*◌, ◌<◌, ◌≤◌, ◌≡◌, Bool, true, false, ◌&&◌, ◌++◌, length, set}
 use Rattle.preference.specs.Selection.{Selection, all, none}
 use Rattle.preference.specs.Question.{Question}
 use Rattle.preference.specs.Part.{Part}
 use Rattle.preference.specs.Cut.{middle}
 use Rattle.preference.specs.Halving.{halve_conflict, halve_relax}
+use Rattle.explain.specs.declared.span.Span.{Span}
+
+-- the two halves of a part
+pub record Halved (from count : ℕ) (first second : Span) : Type 0 where
+  pub first_is : first ≡ record { from = from; count = count / 2 }
+  pub second_is : second ≡ record { from = from + count / 2; count = count - count / 2 }
 
 -- a part of a conflict: all before it are in the ground, it is not, and of those after it the ground has what S keeps
 pub record InGround (from count : ℕ) (X : Selection) : Type 0 where
@@ -54,6 +60,10 @@ WholeTried ok from count asking entry exit told =
     length P ≡ from →
     entry ≡ P ++ (none count ++ none after) →
     Tried (ok (P ++ (all count ++ none after))) asking (P ++ (all count ++ none after)) (P ++ (none count ++ none after)) exit told
+
+-- the flags once the question was asked with the flag of a place at a value, and the answer stands there instead
+abbrev pub tried_at : Question → ℕ → Bool → Selection → Selection
+tried_at ok place value X = set (set X place value) place (ok (set X place value))
 
 -- what a method that has worked all the requests tells: the set in the flags, and the number of questions, which is at most two a request
 pub record Worked (p : Part) (exit : Selection) (asked : ℕ) : Type 0 where

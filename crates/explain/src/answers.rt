@@ -1,18 +1,20 @@
 // The whole answer of a method: the start that all of them share, and then the method's own work.
 ghost use Rattle.std.specs.Prelude.{◌≡◌, ◌<◌, length};
 ghost use Rattle.preference.specs.Selection.{none};
-ghost use Rattle.explain.specs.Asking.{Lent, question_of};
+ghost use Rattle.explain.specs.Ranking.{question_over};
 ghost use Rattle.explain.specs.Parts.{Worked};
-ghost use Rattle.explain.specs.Methods.{whole_by, worked_by, answer_by, Begins, Answers};
+ghost use Rattle.explain.specs.Methods.{whole_by, worked_by, answer_by, number_of, Begins, Answers};
 
 use crate::asking::ask;
-use crate::flags::fill;
 use crate::halving::{halve_conflict, halve_relaxation};
 use crate::one_by_one::{add_one_by_one, remove_one_by_one};
-use table::limits::{MOST_REQUESTS, MOST_ROWS};
-use table::record::Frame;
+use crate::ranked::Ranked;
+use crate::span::Span;
+use crate::workspace::Workspace;
 
 // Conflict or relaxation, by halving or one by one.
+// Kept: the four methods are what the theorems range over (`RightAnswer`, `ReportCall`), so that `settle`, `work` and `record_kind` (hainscope) go by
+// cases, and take no closure.
 #[derive(Clone, Copy)]
 pub enum Method {
     ConflictByHalving,
@@ -26,39 +28,48 @@ pub enum Method {
 #[derive(Clone, Copy)]
 pub enum Begun {
     AllStand,
-    HostFails(usize),
+    HostFails(u32),
     Open,
+}
+
+// What an answer says of the requests: all can stand together, they cannot, or not even the host rows can.
+// The number is that of the report.
+#[derive(Clone, Copy)]
+pub enum Status {
+    AllStand = 0,
+    NotAllStand = 1,
+    HostFails = 2,
+}
+
+impl From<Status> for u16 {
+    ghost from_gives = { λ status number. number ≡ number_of status };
+
+    fn from(status: Status) -> u16 {
+        status as u16
+    }
 }
 
 // Status and count of an answer; the flags have its set.
 #[derive(Clone, Copy)]
 pub struct Outcome {
-    pub status: usize,
-    pub asked: usize,
+    pub status: Status,
+    pub asked: u32,
 }
 
 // The start: all requests are asked, and then the host rows alone.
-fn begin(
-    table: &[u8],
-    frame: Frame,
-    order: &[u16],
-    flags: &mut [bool],
-    chosen: &mut [bool; MOST_REQUESTS + 1],
-    places: &mut [u16; MOST_ROWS],
-) -> Begun
-    requires { Lent table.now frame order.now flags.old }
-    ensures { Begins (question_of table.now frame order.now) (length flags.old) result flags.new }
+fn begin(ranked: &Ranked<'_>, flags: &mut [bool], workspace: &mut Workspace) -> Begun
+    requires { length flags.old ≡ length ranked.now.order.now }
+    ensures { Begins (question_over ranked.now) (length flags.old) result flags.new }
 {
-    let count = flags.len();
-    fill(flags, 0, count, true);
-    if ask(table, frame, order, flags, chosen, places) {
+    flags.fill(true);
+    if ask(ranked, flags, workspace) {
         return Begun::AllStand;
     }
-    fill(flags, 0, count, false);
-    if count == 0 {
+    flags.fill(false);
+    if flags.is_empty() {
         return Begun::HostFails(1);
     }
-    if ask(table, frame, order, flags, chosen, places) {
+    if ask(ranked, flags, workspace) {
         return Begun::Open;
     }
     Begun::HostFails(2)
@@ -68,76 +79,58 @@ fn begin(
 fn settle(method: Method, flags: &mut [bool])
     ensures { flags.new ≡ whole_by method (length flags.old) }
 {
-    let count = flags.len();
     match method {
-        Method::ConflictByHalving => fill(flags, 0, count, false),
-        Method::ConflictOneByOne => fill(flags, 0, count, false),
-        Method::RelaxationByHalving => fill(flags, 0, count, true),
-        Method::RelaxationOneByOne => fill(flags, 0, count, true),
+        Method::ConflictByHalving | Method::ConflictOneByOne => flags.fill(false),
+        Method::RelaxationByHalving | Method::RelaxationOneByOne => flags.fill(true),
     }
 }
 
 // Works the method where all cannot stand and the host can. Returns the number of questions.
-fn work(
-    method: Method,
-    table: &[u8],
-    frame: Frame,
-    order: &[u16],
-    flags: &mut [bool],
-    chosen: &mut [bool; MOST_REQUESTS + 1],
-    places: &mut [u16; MOST_ROWS],
-) -> usize
-    requires { Lent table.now frame order.now flags.old × (flags.old ≡ none (length flags.old)) × (0 < length flags.old) }
-    ensures { Worked (worked_by method (question_of table.now frame order.now) (length flags.old))
-        flags.new result }
+fn work(method: Method, ranked: &Ranked<'_>, flags: &mut [bool], workspace: &mut Workspace) -> u32
+    requires { (length flags.old ≡ length ranked.now.order.now) × (flags.old ≡ none (length flags.old)) × (0 < length flags.old) }
+    ensures { Worked (worked_by method (question_over ranked.now) (length flags.old)) flags.new result }
 {
-    let count = flags.len();
+    let whole = Span {
+        from: 0,
+        count: flags.len(),
+    };
     match method {
-        Method::ConflictByHalving => {
-            let worked = halve_conflict(
-                table, frame, order, flags, chosen, places, 0, count, false,
-            );
-            worked.asked
-        }
-        Method::ConflictOneByOne => remove_one_by_one(table, frame, order, flags, chosen, places),
+        Method::ConflictByHalving => halve_conflict(ranked, flags, workspace, whole, false).asked,
+        Method::ConflictOneByOne => remove_one_by_one(ranked, flags, workspace),
         Method::RelaxationByHalving => {
-            let worked = halve_relaxation(
-                table, frame, order, flags, chosen, places, 0, count, false,
-            );
-            worked.asked
+            halve_relaxation(ranked, flags, workspace, whole, false).asked
         }
-        Method::RelaxationOneByOne => add_one_by_one(table, frame, order, flags, chosen, places),
+        Method::RelaxationOneByOne => add_one_by_one(ranked, flags, workspace),
     }
 }
 
 // The answer of a method over an order: status and count, and its set in the flags.
 pub fn answer(
     method: Method,
-    table: &[u8],
-    frame: Frame,
-    order: &[u16],
+    ranked: &Ranked<'_>,
     flags: &mut [bool],
-    chosen: &mut [bool; MOST_REQUESTS + 1],
-    places: &mut [u16; MOST_ROWS],
+    workspace: &mut Workspace,
 ) -> Outcome
-    requires { Lent table.now frame order.now flags.old }
-    ensures { Answers (answer_by method (question_of table.now frame order.now) (length flags.old))
-        (length flags.old) flags.new result.status result.asked }
+    requires { length flags.old ≡ length ranked.now.order.now }
+    ensures { Answers (answer_by method (question_over ranked.now) (length flags.old))
+        (length flags.old) flags.new (number_of result.status) result.asked }
 {
-    let begun = begin(table, frame, order, flags, chosen, places);
-    match begun {
+    match begin(ranked, flags, workspace) {
         Begun::AllStand => {
             settle(method, flags);
             Outcome {
-                status: 0,
+                status: Status::AllStand,
                 asked: 1,
             }
         }
-        Begun::HostFails(asked) => Outcome { status: 2, asked },
+        Begun::HostFails(asked) => Outcome {
+            status: Status::HostFails,
+            asked,
+        },
         Begun::Open => {
-            let asked = work(method, table, frame, order, flags, chosen, places);
+            let asked = work(method, ranked, flags, workspace);
             Outcome {
-                status: 1,
+                status: Status::NotAllStand,
                 asked: 2 + asked,
             }
         }

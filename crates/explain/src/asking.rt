@@ -3,43 +3,33 @@ ghost use Rattle.std.specs.Prelude.{◌≡◌, true, length};
 ghost use Rattle.table.specs.Lists.{every};
 ghost use Rattle.table.specs.Limits.{within};
 ghost use Rattle.preference.specs.Named.{named};
-ghost use Rattle.explain.specs.Asking.{marked, Lent, question_of};
+ghost use Rattle.explain.specs.Asking.{marked};
+ghost use Rattle.explain.specs.Ranking.{question_over};
 
+use crate::ranked::Ranked;
+use crate::workspace::Workspace;
 use question::search::can_stand;
-use table::limits::{MOST_REQUESTS, MOST_ROWS};
-use table::record::Frame;
+use table::limits::MOST_REQUESTS;
 
 // Marks the chosen requests of an order by their numbers.
 fn mark(order: &[u16], flags: &[bool], chosen: &mut [bool])
-    requires { (length flags.now ≡ length order.now) × (every (within 0 (length chosen.old)) order.now ≡ true) }
+    requires { every (within 0 (length chosen.old)) order.now ≡ true }
     ensures { chosen.new ≡ marked (named order.now flags.now) chosen.old }
 {
-    let mut place = 0;
-    while place < order.len() {
-        if flags[place] {
-            let request = order[place] as usize;
-            chosen[request] = true;
-            place = place + 1;
-        } else {
-            place = place + 1;
+    for (request, is_chosen) in order.iter().zip(flags) {
+        if *is_chosen {
+            chosen[usize::from(*request)] = true;
         }
     }
 }
 
-// Whether the chosen requests of the order can stand. Two lists are lent to work on: who is chosen by number, and the places of rows.
-pub fn ask(
-    table: &[u8],
-    frame: Frame,
-    order: &[u16],
-    flags: &[bool],
-    chosen: &mut [bool; MOST_REQUESTS + 1],
-    places: &mut [u16; MOST_ROWS],
-) -> bool
-    requires { Lent table.now frame order.now flags.now }
-    ensures { result ≡ question_of table.now frame order.now flags.now }
+// Whether the chosen requests of the order can stand.
+pub fn ask(ranked: &Ranked<'_>, flags: &[bool], workspace: &mut Workspace) -> bool
+    requires { length flags.now ≡ length ranked.now.order.now }
+    ensures { result ≡ question_over ranked.now flags.now }
 {
-    *chosen = [false; MOST_REQUESTS + 1];
-    chosen[0] = true;
-    mark(order, flags, chosen);
-    can_stand(table, frame, chosen, places)
+    workspace.chosen = [false; MOST_REQUESTS + 1];
+    workspace.chosen[0] = true;
+    mark(ranked.order, flags, &mut workspace.chosen);
+    can_stand(ranked.table, &workspace.chosen, &mut workspace.places)
 }

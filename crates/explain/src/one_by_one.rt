@@ -1,65 +1,56 @@
 // The one-by-one method: each request is tried once, by one question.
-ghost use Rattle.std.specs.Prelude.{[], length};
+ghost use Rattle.std.specs.Prelude.{◌≡◌, ◌<◌, [], length};
 ghost use Rattle.preference.specs.OneByOne.{one_conflict, one_relax};
-ghost use Rattle.explain.specs.Asking.{Lent, question_of};
-ghost use Rattle.explain.specs.Parts.{Worked};
+ghost use Rattle.explain.specs.Ranking.{question_over};
+ghost use Rattle.explain.specs.Parts.{Worked, tried_at};
 
 use crate::asking::ask;
-use crate::flags::fill;
-use table::limits::{MOST_REQUESTS, MOST_ROWS};
-use table::record::Frame;
+use crate::ranked::Ranked;
+use crate::workspace::Workspace;
+
+// Asks with the flag of a place at a value, and leaves the answer there.
+// Kept: the two methods below share this. One function of both would have each one's invariant and clause, which are two definitions that recur
+// from opposite ends of the order (`one_conflict`, `one_relax`).
+fn try_at(
+    ranked: &Ranked<'_>,
+    flags: &mut [bool],
+    workspace: &mut Workspace,
+    place: usize,
+    value: bool,
+)
+    requires { (length flags.old ≡ length ranked.now.order.now) × (place < length flags.old) }
+    ensures { flags.new ≡ tried_at (question_over ranked.now) place value flags.old }
+{
+    flags[place] = value;
+    flags[place] = ask(ranked, flags, workspace);
+}
 
 // The conflict: from the least important request on, each is removed where what is left without it cannot
 // stand. Returns the number of questions.
-pub fn remove_one_by_one(
-    table: &[u8],
-    frame: Frame,
-    order: &[u16],
-    flags: &mut [bool],
-    chosen: &mut [bool; MOST_REQUESTS + 1],
-    places: &mut [u16; MOST_ROWS],
-) -> usize
-    requires { Lent table.now frame order.now flags.old }
-    ensures { Worked (one_conflict (question_of table.now frame order.now) (length flags.old) [])
-        flags.new result }
+pub fn remove_one_by_one(ranked: &Ranked<'_>, flags: &mut [bool], workspace: &mut Workspace) -> u32
+    requires { length flags.old ≡ length ranked.now.order.now }
+    ensures { Worked (one_conflict (question_over ranked.now) (length flags.old) []) flags.new result }
 {
-    let count = flags.len();
-    fill(flags, 0, count, true);
+    flags.fill(true);
     let mut asked = 0;
-    let mut left = count;
-    while 0 < left {
-        left = left - 1;
-        flags[left] = false;
-        let keep = ask(table, frame, order, flags, chosen, places);
-        flags[left] = keep;
-        asked = asked + 1;
+    for place in (0..flags.len()).rev() {
+        try_at(ranked, flags, workspace, place, false);
+        asked += 1;
     }
     asked
 }
 
 // The relaxation: from the most important request on, each is added where that can stand. Returns the number of
 // questions.
-pub fn add_one_by_one(
-    table: &[u8],
-    frame: Frame,
-    order: &[u16],
-    flags: &mut [bool],
-    chosen: &mut [bool; MOST_REQUESTS + 1],
-    places: &mut [u16; MOST_ROWS],
-) -> usize
-    requires { Lent table.now frame order.now flags.old }
-    ensures { Worked (one_relax (question_of table.now frame order.now) [] (length flags.old)) flags.new result }
+pub fn add_one_by_one(ranked: &Ranked<'_>, flags: &mut [bool], workspace: &mut Workspace) -> u32
+    requires { length flags.old ≡ length ranked.now.order.now }
+    ensures { Worked (one_relax (question_over ranked.now) [] (length flags.old)) flags.new result }
 {
-    let count = flags.len();
-    fill(flags, 0, count, false);
+    flags.fill(false);
     let mut asked = 0;
-    let mut place = 0;
-    while place < count {
-        flags[place] = true;
-        let keep = ask(table, frame, order, flags, chosen, places);
-        flags[place] = keep;
-        asked = asked + 1;
-        place = place + 1;
+    for place in 0..flags.len() {
+        try_at(ranked, flags, workspace, place, true);
+        asked += 1;
     }
     asked
 }

@@ -1,87 +1,79 @@
 -- The bits of a selection, spread over the requests one by one.
-use Prim.Native.Nat.{ℕ, zero, suc, ◌+◌, ◌-◌, ◌%◌, ◌/◌, ◌≤◌, ◌<◌}
-use mathlib.Core.Path.{◌≡◌, refl, ap, ap₂, ◌∙◌}
-use mathlib.Core.Bool.{Bool, true, false}
-use mathlib.Core.List.{List, [], ◌∷◌, ◌++◌, append-nil}
-use native.Mathlib.Omega.{arith}
-use native.Mathlib.Numerals.{add-one}
-use lib.Dec.{eqb}
-use lib.ListN.{length, take, set, replicate, length-set, length-replicate, drop_of_length-le}
-use lib.Seq.{sets, sets-eq, length-take-le}
-use borrow.Author.Tests.{eq-eqb, ne_eqb}
+use Rattle.std.proofs.Common.{◌≡◌, ℕ, zero, suc, ◌+◌, ◌-◌, ◌%◌, ◌/◌, ◌≤◌, ◌<◌, Bool, true, eqb, List, [], ◌∷◌, ◌++◌, Ok, Err, length, take}
+use Rattle.std.proofs.Common.{drop, set, add-one, length-set, take_all, length-take-le, append-nil, refl, sym, ap, ◌∙◌, arith, eq-eqb, ne_eqb}
+use Rattle.std.proofs.lemmas.List.{take_more_set, drop_all}
+use borrow.Rule.Slice.PartMut.{put_mid}
 use Rattle.table.specs.declared.record.Frame.{Frame}
-use Rattle.table.specs.Limits.{most_requests}
-use Rattle.table.specs.Kept.{Kept, rows_of}
+use Rattle.table.specs.Kept.{rows_of}
 use Rattle.meaning.specs.Stands.{stands, by_role}
 use Rattle.question.specs.MayAsk.{MayAsk}
-use Rattle.hainscope.specs.declared.selecting.Verdict.TheVariants.{NamesTooMuch, Answered}
+use Rattle.hainscope.specs.declared.refused.Refused.TheVariants.{NamesTooMuch}
 use Rattle.promises.specs.Selecting.{bits, above, names_above, can_stand}
-use Rattle.hainscope.specs.Written.{Spread, verdict_of}
+use Rattle.hainscope.specs.Written.{verdict_of}
 use Rattle.promises.proofs.Bits.{length-bits}
 
--- one bit more is spread
-pub bits_turn :
-    (left number at : ℕ) (X : List Bool) →
-    0 < left →
-    sets (set X at (eqb (number % 2) 1)) (at + 1) (bits (left - 1) (number / 2)) ≡ sets X at (bits left number)
-unfolding bits
-bits_turn zero number at X h = absurd (omega arith)
-bits_turn (suc left) number at X h = let e : suc left - 1 ≡ left = omega arith in rw (e, add-one)
-
-pub above_turn : (left number : ℕ) → 0 < left → above (left - 1) (number / 2) ≡ above left number
-unfolding above
-above_turn zero number h = absurd (omega arith)
-above_turn (suc left) number h = let e : suc left - 1 ≡ left = omega arith in rw e
-
--- no bit is left to spread
-pub spread_done :
-    (left number at : ℕ) (X Y : List Bool) (selection : ℕ) →
-    left ≤ 0 →
-    0 < length Y →
-    sets X at (bits left number) ≡ sets Y 1 (bits (length Y - 1) selection) →
-    above left number ≡ above (length Y - 1) selection →
-    Spread Y X selection number
+-- one bit more
+bits_next : (n number : ℕ) → bits (n + 1) number ≡ bits n number ++ eqb (above n number % 2) 1 ∷ []
 unfolding bits above
-spread_done zero number at X Y selection h some e g =
-    let n : length (bits (length Y - 1) selection) ≡ length Y - 1 = length-bits (length Y - 1) selection in
-    let whole : length Y ≤ 1 + length (bits (length Y - 1) selection) = omega arith in
-    record {
-      flags =
-          e ∙ sets-eq (bits (length Y - 1) selection) Y 1 (omega arith)
-          ∙ rw (drop_of_length-le Y whole, append-nil);
-      rest_is = g;
-    }
-spread_done (suc left) number at X Y selection h some e g = absurd (omega arith)
+bits_next zero number = refl
+bits_next (suc n) number = rw add-one (rw add-one at (ap (λ (xs : List Bool). eqb (number % 2) 1 ∷ xs) (bits_next n (number / 2))))
 
-module _ (t : List ℕ) (f : Frame) (selection : ℕ) (X Y : List Bool) (kept : Kept t f)
-    (each : length X ≡ f.requests + 1) (rest : ℕ) (spread : Spread (set X 0 true) Y selection rest) where
-  count : length (set X 0 true) - 1 ≡ f.requests
-  count = let e = length-set X 0 true in omega arith
+above_next : (n number : ℕ) → above (n + 1) number ≡ above n number / 2
+unfolding above
+above_next zero number = refl
+above_next (suc n) number = rw add-one (rw add-one at (above_next n (number / 2)))
 
-  flags_are : Y ≡ true ∷ bits f.requests selection
-  flags_are = spread.flags ∙ ap₂ ◌++◌ (host X (omega arith)) (ap (λ (n : ℕ). bits n selection) count)
-    where
-      host : (Z : List Bool) → 0 < length Z → take 1 (set Z 0 true) ≡ true ∷ []
-      host [] h = absurd (omega arith)
-      host (z ∷ Z) h = refl
+-- how far the loop has come: the first bits are spread, and what is left of the number is above them
+pub record Spreading (selection : ℕ) (initial requests : List Bool) (spread rest : ℕ) : Type 0 where
+  pub long : length requests ≡ length initial
+  pub so_far : take spread requests ≡ bits spread selection
+  pub rest_is : rest ≡ above spread selection
 
-  rest_of : rest ≡ above f.requests selection
-  rest_of = spread.rest_is ∙ ap (λ (n : ℕ). above n selection) count
+pub spread_starts : (selection : ℕ) (initial : List Bool) → Spreading selection initial initial 0 selection
+unfolding bits above
+spread_starts selection initial = record { long = refl; so_far = refl; rest_is = refl }
 
+module _ {selection : ℕ} {initial requests : List Bool} {spread rest : ℕ} (far : Spreading selection initial requests spread rest) where
+  pub spread_turns : spread < length initial → Spreading selection initial (set requests spread (eqb (rest % 2) 1)) (spread + 1) (rest / 2)
+  spread_turns more =
+      record {
+        long = simp length-set far.long;
+        so_far = take_more_set requests spread (eqb (rest % 2) 1) (omega (arith, far.long)) ∙ rw (far.so_far, far.rest_is) (sym (bits_next spread selection));
+        rest_is = rw far.rest_is (sym (above_next spread selection));
+      }
+
+  pub spread_ends : length initial ≤ spread → spread ≤ length initial → (requests ≡ bits (length initial) selection) × (rest ≡ above (length initial) selection)
+  spread_ends none few =
+      let all : spread ≡ length initial = omega arith in (
+        sym (take_all spread requests (omega (arith, far.long))) ∙ far.so_far ∙ ap (λ (n : ℕ). bits n selection) all,
+        far.rest_is ∙ ap (λ (n : ℕ). above n selection) all,
+      )
+
+module _ (t : List ℕ) (f : Frame) (selection rest : ℕ) (over : rest ≡ above f.requests selection) where
   -- the selection names a request above N
-  pub names_too_much_lem : (rest ≡ 0 → ⊥) → NamesTooMuch ≡ verdict_of t f selection
+  pub names_too_much_lem : (rest ≡ 0 → ⊥) → Err NamesTooMuch ≡ verdict_of t f selection
   unfolding verdict_of names_above
-  names_too_much_lem h = rw (← rest_of, ne_eqb rest 0 h)
+  names_too_much_lem h = rw (← over, ne_eqb rest 0 h)
 
-  -- the question may be asked
-  pub may_ask : MayAsk t f Y
-  may_ask = record { kept = kept; each = rw flags_are (omega (arith, length-bits f.requests selection)); host = rw flags_are }
+  module _ (chosen : List Bool) (spread : chosen ≡ true ∷ bits f.requests selection) where
+    -- the question may be asked
+    pub may_ask : MayAsk f chosen
+    may_ask = record { each = rw spread (omega (arith, length-bits f.requests selection)); host = rw spread }
 
-  -- and its answer is the selection's
-  pub told_is : rest ≡ 0 → (answer : Bool) → answer ≡ stands (rows_of t f) f.variables (by_role Y) → Answered answer ≡ verdict_of t f selection
-  unfolding verdict_of names_above can_stand
-  told_is z answer e = rw (← rest_of, eq-eqb rest 0 z) (ap Answered (rw flags_are at e))
+    -- and its answer is the selection's
+    pub told_is : rest ≡ 0 → (answer : Bool) → answer ≡ stands (rows_of t f) f.variables (by_role chosen) → Ok answer ≡ verdict_of t f selection
+    unfolding verdict_of names_above can_stand
+    told_is z answer e = rw (← over, eq-eqb rest 0 z) (ap Ok (rw spread at e))
 
--- the list that it is spread over has an entry for the host and for each request
-pub entries_length : (f : Frame) → f.requests ≤ most_requests → length (take (f.requests + 1) (replicate (most_requests + 1) false)) ≡ f.requests + 1
-entries_length f h = length-take-le (f.requests + 1) (replicate (most_requests + 1) false) (rw length-replicate (omega arith))
+-- the bits are spread behind the host's entry
+pub spread_over :
+    (chosen : List Bool) (requests selection rest : ℕ) (spread : List Bool) →
+    length chosen ≡ requests + 1 →
+    (spread ≡ bits (length (take (length (set chosen 0 true) - 1) (drop 1 (set chosen 0 true)))) selection)
+    × (rest ≡ above (length (take (length (set chosen 0 true) - 1) (drop 1 (set chosen 0 true)))) selection) →
+    (put_mid 1 (length (set chosen 0 true) - 1) (set chosen 0 true) spread ≡ true ∷ bits requests selection) × (rest ≡ above requests selection)
+spread_over [] requests selection rest spread each (e, g) = absurd (omega arith)
+spread_over (host ∷ chosen) requests selection rest spread each (e, g) =
+    let same : length (take (suc (length chosen) - 1) chosen) ≡ requests = length-take-le (suc (length chosen) - 1) chosen (omega arith) ∙ omega arith in
+    let none : drop (suc (length chosen) - 1) chosen ≡ [] = drop_all (suc (length chosen) - 1) chosen (omega arith) in
+    (rw (none, append-nil, e, same), g ∙ ap (λ (n : ℕ). above n selection) same)

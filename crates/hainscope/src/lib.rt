@@ -1,7 +1,8 @@
-// The public face: what the store's server calls, with numbers and byte slices only. Every call answers every
-// input; the crate `promises` has what each promises (its specs/Calls.antt).
+// The public face: the calls that the store's server makes. Every call answers every input; the crate `promises` has
+// what each promises (its specs/Calls.antt).
 #![tactic(auto)]
 
 pub mod calls;
+pub mod refused;
 mod reporting;
 mod selecting;

@@ -1,11 +1,8 @@
 -- How answers to different selections hang together.
-use Prim.Native.Nat.{ℕ, zero, suc, ◌<◌, ◌≤◌}
-use mathlib.Core.Path.{◌≡◌, refl, ap, fun_ext}
-use mathlib.Core.Bool.{Bool, true, false, cond, ◌||◌}
+use Rattle.std.proofs.Common.{ℕ, zero, suc, ◌<◌, ◌≤◌, ◌≡◌, refl, ap, Bool, true, false, cond, ◌||◌, List, [], arith, eqb}
+use mathlib.Core.Path.{fun_ext}
 use mathlib.Core.List.Memᴰ
-use mathlib.Core.List.{List, [], Memᴰ}
-use native.Mathlib.Omega.{arith}
-use lib.Dec.{eqb}
+use mathlib.Core.List.{Memᴰ}
 use Rattle.table.specs.declared.record.Frame.{Frame}
 use Rattle.table.specs.Rows.{Row, rows, after}
 use Rattle.table.specs.Kept.{Kept, RowsKept, rows_of, first_row}

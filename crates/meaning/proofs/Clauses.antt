@@ -1,112 +1,73 @@
--- One turn of the loop over a clause's literals, and each way out of the test of one.
-use Prim.Native.Nat.{ℕ, zero, suc, ◌+◌, ◌-◌, ◌/◌, ◌%◌, ◌<◌, ◌≤◌}
-use mathlib.Core.Path.{◌≡◌, refl, sym, ◌∙◌}
-use mathlib.Core.Bool.{Bool, true, false, cond, ◌||◌}
-use mathlib.Core.List.{List}
-use native.Mathlib.Omega.{arith}
-use lib.Dec.{leb, ltb, eqb}
-use lib.ListN.{get_or}
-use borrow.Author.Tests.{eq-eqb, ne_eqb, ltb-true}
-use Rattle.table.specs.Lists.{every}
-use Rattle.table.specs.Words.{u16_at, words}
+-- The loop over a clause's literals, and each way out of the test of one.
+use Rattle.std.proofs.Common.{◌≡◌, sym, ◌∙◌, ℕ, ◌+◌, ◌*◌, ◌<◌, ◌≤◌, false, cond, List, [], map, length, take, get_or, leb, ltb, ltb-true}
+use mathlib.Core.Bool.{or-true, or-false}
+use Rattle.std.proofs.lemmas.List.{take_all, get_or-map, length-map}
+use Rattle.std.proofs.lemmas.List.Folds.{list_any_more, list_any_at}
+use Rattle.table.specs.Words.{word_in}
 use Rattle.table.specs.Limits.{within}
-use Rattle.table.proofs.Runs.{words_turn}
+use Rattle.table.proofs.Steps.{both}
+use Rattle.meaning.specs.declared.state.State.{State}
+use Rattle.meaning.specs.declared.state.State.TheVariants.{Met, Open, Fails}
 use Rattle.meaning.specs.Meaning.{any_of}
 use Rattle.meaning.specs.HalfMade.{Values}
-use Rattle.meaning.specs.States.{is_decided_true, may_be_true, must_be_true, state_of, literal_state, clause_state}
-use Rattle.meaning.proofs.Tested.{every_head, any_here}
-use Rattle.meaning.proofs.States.{state_always, always_must, not_always}
-use Rattle.table.proofs.Steps.{both}
+use Rattle.meaning.specs.States.{may_be_true, must_be_true, literal_state, clause_state}
+use Rattle.meaning.specs.WholeRows.{LiteralsNamed}
+use Rattle.meaning.proofs.Tested.{every_at}
+use Rattle.meaning.proofs.States.{state_met, met_must, open_may, fails_neither}
 
-module _ (values : Values) (literal : ℕ) where
-  -- the variable is free
-  pub literal_free : get_or values (literal / 2) 0 ≡ 2 → 1 ≡ literal_state values literal
-  unfolding literal_state state_of may_be_true must_be_true
-  literal_free e = rw e
+-- the literal at hand, by its bytes
+pub literal_at_hand :
+    (parts : List (List ℕ)) (i literal : ℕ) →
+    i < length parts →
+    (literal ≡ word_in (get_or parts i [])) × (literal < 65536) →
+    (i < length (map word_in parts)) × (literal ≡ get_or (map word_in parts) i 0)
+literal_at_hand parts i literal h e = (rw (length-map parts word_in) h, e.0 ∙ sym (get_or-map word_in parts i [] 0 h))
 
-  module _ (decided : get_or values (literal / 2) 0 ≡ 2 → ⊥) where
-    -- it is decided, and the literal is plain
-    pub plain_one : literal % 2 ≡ 0 → get_or values (literal / 2) 0 ≡ 1 → 0 ≡ literal_state values literal
-    unfolding literal_state state_of may_be_true must_be_true is_decided_true
-    plain_one plain one = rw (one, eq-eqb (literal % 2) 0 plain)
+-- each literal names a variable
+pub literal_named : (variables : ℕ) (literals : List ℕ) (i : ℕ) → LiteralsNamed variables literals → i < length literals → get_or literals i 0 < 2 * variables
+unfolding within
+literal_named variables literals i named h =
+    let literal = get_or literals i 0 in
+    ltb-true literal (2 * variables) (both (leb 0 literal) (ltb literal (2 * variables)) (every_at (within 0 (2 * variables)) literals 0 i named.named h)).1
 
-    pub plain_zero : literal % 2 ≡ 0 → (get_or values (literal / 2) 0 ≡ 1 → ⊥) → 2 ≡ literal_state values literal
-    unfolding literal_state state_of may_be_true must_be_true is_decided_true
-    plain_zero plain not-one =
-        rw (ne_eqb (get_or values (literal / 2) 0) 2 decided, eq-eqb (literal % 2) 0 plain, ne_eqb (get_or values (literal / 2) 0) 1 not-one)
+-- how far the loop has come: of the first i literals none must be true, and the state tells whether one may be
+pub record Scanned (values : Values) (literals : List ℕ) (i : ℕ) (state : State) : Type 0 where
+  pub is : state ≡ cond (any_of (may_be_true values) (take i literals)) Open Fails
+  pub must : any_of (must_be_true values) (take i literals) ≡ false
 
-    -- it is decided, and the literal is negated
-    pub negated_one : (literal % 2 ≡ 0 → ⊥) → get_or values (literal / 2) 0 ≡ 1 → 2 ≡ literal_state values literal
-    unfolding literal_state state_of may_be_true must_be_true is_decided_true
-    negated_one negated one = rw (one, ne_eqb (literal % 2) 0 negated)
+module _ (values : Values) (literals : List ℕ) (i : ℕ) (h : i < length literals) where
+  -- the literal at hand must be true
+  pub scanned_met : Met ≡ literal_state values (get_or literals i 0) → Met ≡ clause_state values literals
+  unfolding literal_state clause_state
+  scanned_met e = state_met _ _ (list_any_at (must_be_true values) literals i 0 h (met_must _ _ e))
 
-    pub negated_zero : (literal % 2 ≡ 0 → ⊥) → (get_or values (literal / 2) 0 ≡ 1 → ⊥) → 0 ≡ literal_state values literal
-    unfolding literal_state state_of may_be_true must_be_true is_decided_true
-    negated_zero negated not-one =
-        rw (ne_eqb (get_or values (literal / 2) 0) 2 decided, ne_eqb (literal % 2) 0 negated, ne_eqb (get_or values (literal / 2) 0) 1 not-one)
+  -- it need not, and may
+  pub scanned_open :
+      (state : State) → Scanned values literals i state → Open ≡ literal_state values (get_or literals i 0) → Scanned values literals (i + 1) Open
+  unfolding literal_state
+  scanned_open state s e =
+      let told = open_may _ _ e in
+      record {
+        is = rw (list_any_more (may_be_true values) literals i 0 h, told.0, or-true (any_of (may_be_true values) (take i literals)));
+        must = rw (list_any_more (must_be_true values) literals i 0 h, told.1, s.must);
+      }
 
-module _ (t : List ℕ) (at left : ℕ) (more : 0 < left) where
-  -- the literal at hand names a variable, and so do the rest
-  pub literal_named :
-      (high : ℕ) →
-      every (within 0 high) (words left t at) ≡ true →
-      (u16_at t at < high) × (every (within 0 high) (words (left - 1) t (at + 2)) ≡ true)
-  unfolding within
-  literal_named high e =
-      let p : (within 0 high (u16_at t at) ≡ true) × (every (within 0 high) (words (left - 1) t (at + 2)) ≡ true) =
-      every_head (within 0 high) (u16_at t at) (words (left - 1) t (at + 2)) (rw (words_turn left t at more) at e) in
-      (ltb-true (u16_at t at) high (both (leb 0 (u16_at t at)) (ltb (u16_at t at) high) p.0).1, p.1)
+  -- it cannot be
+  pub scanned_fails :
+      (state : State) → Scanned values literals i state → Fails ≡ literal_state values (get_or literals i 0) → Scanned values literals (i + 1) state
+  unfolding literal_state
+  scanned_fails state s e =
+      let told = fails_neither _ _ e in
+      record {
+        is = rw (list_any_more (may_be_true values) literals i 0 h, told.0, or-false (any_of (may_be_true values) (take i literals))) s.is;
+        must = rw (list_any_more (must_be_true values) literals i 0 h, told.1, s.must);
+      }
 
--- how far the loop has come: no literal so far must be true, and the state tells whether one may be
-pub record Scanned (values : Values) (t : List ℕ) (from count at left state : ℕ) : Type 0 where
-  pub seen : Bool
-  pub is : state ≡ cond seen 1 2
-  pub may : (seen || any_of (may_be_true values) (words left t at)) ≡ any_of (may_be_true values) (words count t from)
-  pub must : any_of (must_be_true values) (words left t at) ≡ any_of (must_be_true values) (words count t from)
-
-one_more : (seen may : Bool) → ◌≡◌ {A = ℕ} (cond (eqb (cond may 1 2) 1) 1 (cond seen 1 2)) (cond (seen || may) 1 2)
-one_more true true = refl
-one_more true false = refl
-one_more false true = refl
-one_more false false = refl
-
-seen_more : (seen may rest : Bool) → ((seen || may) || rest) ≡ (seen || (may || rest))
-seen_more true may rest = refl
-seen_more false may rest = refl
-
-nothing_more : (seen : Bool) → (seen || false) ≡ seen
-nothing_more true = refl
-nothing_more false = refl
-
-module _ (values : Values) (t : List ℕ) (from count : ℕ) where
-  pub scanned_start : Scanned values t from count from count 2
-  scanned_start = record { seen = false; is = refl; may = refl; must = refl }
-
-  module _ (at left state : ℕ) (scanned : Scanned values t from count at left state) where
-    module _ (more : 0 < left) (literal here : ℕ) (read : literal ≡ u16_at t at) (tested : here ≡ literal_state values literal) where
-      -- the literal at hand must be true
-      pub scanned_true : here ≡ 0 → 0 ≡ clause_state values (words count t from)
-      unfolding literal_state clause_state
-      scanned_true e =
-          state_always _ _
-          (sym scanned.must
-          ∙ rw (words_turn left t at more, ← read) (any_here (must_be_true values) literal (words (left - 1) t (at + 2)) (always_must _ _ (sym e ∙ tested))))
-
-      -- it need not
-      pub scanned_turn : (here ≡ 0 → ⊥) → (next : ℕ) → next ≡ cond (eqb here 1) 1 state → Scanned values t from count (at + 2) (left - 1) next
-      unfolding literal_state any_of
-      scanned_turn e next is =
-          let h : (must_be_true values literal ≡ false) × (here ≡ cond (may_be_true values literal) 1 2) = not_always _ _ here tested e in
-          record {
-            seen = scanned.seen || may_be_true values literal;
-            is = is ∙ rw (h.1, scanned.is) (one_more scanned.seen (may_be_true values literal));
-            may = seen_more scanned.seen (may_be_true values literal) _ ∙ rw (words_turn left t at more, ← read) at scanned.may;
-            must = rw (words_turn left t at more, ← read, h.0) at scanned.must;
-          }
-
-  -- no literal is left
-  pub scanned_end :
-      (at left state : ℕ) → Scanned values t from count at left state → left ≤ 0 → state ≡ clause_state values (words count t from)
-  unfolding any_of words clause_state state_of
-  scanned_end at zero state s none = rw (← s.may, ← s.must, nothing_more s.seen) s.is
-  scanned_end at (suc left) state s none = absurd (omega arith)
+-- no literal is left
+pub scanned_end :
+    (values : Values) (literals : List ℕ) (i : ℕ) (state : State) → Scanned values literals i state → length literals ≤ i → state ≡ clause_state values literals
+unfolding clause_state
+scanned_end values literals i state s h =
+    let is : state ≡ cond (any_of (may_be_true values) literals) Open Fails = rw (take_all i literals h) at s.is in
+    let must : any_of (must_be_true values) literals ≡ false = rw (take_all i literals h) at s.must in
+    rw must is

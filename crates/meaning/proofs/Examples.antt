@@ -1,12 +1,8 @@
 -- Small questions, answered by the definitions themselves (document 01, "Meaning", and rows E, J and K of its sample sheet).
-use Prim.Native.Nat.{ℕ}
-use mathlib.Core.Path.{◌≡◌, refl}
-use mathlib.Core.Bool.{Bool, true, false}
-use mathlib.Core.List.{[], ◌∷◌}
-use lib.IntN.{ℤ, pos, negsuc}
-use Rattle.table.specs.Lists.{every}
-use Rattle.table.specs.Rows.{Term, Row, clause, linear}
-use Rattle.meaning.specs.Meaning.{is_true, any_of, value_of, product, sum_of, meets, role_of, counts, respects, meets_all}
+use Rattle.std.proofs.Common.{ℕ, ◌≡◌, refl, Bool, true, false, [], ◌∷◌, ℤ, pos, negsuc}
+use Rattle.table.specs.declared.terms.Term.{Term}
+use Rattle.table.specs.Rows.{Row, clause, linear}
+use Rattle.meaning.specs.Meaning.{is_true, value_of, product, sum_of, meets, role_of, counts, respects, meets_all}
 use Rattle.meaning.specs.Stands.{some_setting, stands, by_role}
 
 -- the selections of no request, of request 1, and of requests 1 and 2
@@ -37,7 +33,7 @@ no_variables :
     × (stands (clause 0 [] ∷ []) 2 none ≡ false)
     × (stands (clause 1 [] ∷ []) 2 none ≡ true)
     × (stands (clause 1 [] ∷ []) 2 first ≡ false)
-unfolding stands some_setting meets_all every respects counts role_of meets any_of
+unfolding stands some_setting meets_all respects counts role_of meets
 no_variables = (refl, refl, refl, refl, refl)
 
 -- E: x0 and !x0 stand alone and not together; a repeated literal changes nothing
@@ -47,7 +43,7 @@ opposites :
     × (stands (refuses 0 ∷ wants 1 ∷ []) 1 first ≡ false)
     × (stands (refuses 0 ∷ clause 1 (0 ∷ 0 ∷ []) ∷ []) 1 first ≡ false)
     × (stands (refuses 0 ∷ clause 1 (0 ∷ 2 ∷ []) ∷ []) 2 first ≡ true)
-unfolding stands some_setting meets_all every respects counts role_of meets any_of is_true
+unfolding stands some_setting meets_all respects counts role_of meets is_true
 opposites = (refl, refl, refl, refl, refl)
 
 -- J: x0 + x0 at most 1 cannot hold with x0; K: -3 x0 at most -1 forces x0; the bound itself is allowed; no terms have the sum 0
@@ -58,5 +54,5 @@ budgets :
     × (stands (linear 0 (negsuc 0) (times (negsuc 2) ∷ []) ∷ wants 1 ∷ []) 1 first ≡ true)
     × (stands (linear 0 (pos 0) [] ∷ []) 0 none ≡ true)
     × (stands (linear 0 (negsuc 0) [] ∷ []) 0 none ≡ false)
-unfolding stands some_setting meets_all every respects counts role_of meets any_of is_true sum_of product value_of
+unfolding stands some_setting meets_all respects counts role_of meets is_true sum_of product value_of
 budgets = (refl, refl, refl, refl, refl, refl)

@@ -1,7 +1,6 @@
--- The laws of what a table means, bottom up. For those above: Standing, what `stands` says; RepeatedLiteral, that one
--- changes nothing; Choices, how the answers to different selections
--- hang together; HalfMade, one variable more decided; Pruning, why the state of a row loses no setting. For the code: Clauses, Sums and OneRow,
--- the loops over a row and each way out of the test of one.
+-- The laws of what a table means, bottom up. For those above: Standing, what `stands` says; RepeatedLiteral, that one changes nothing; Choices, how
+-- the answers to different selections hang together; HalfMade, one variable more decided; States and Pruning, why the state of a row loses no
+-- setting; OneRow, what an accepted table tells about a row. For the code: Clauses and Sums, the loops over a row's literals and terms.
 pub mod Tested
 pub mod Differences
 pub mod States

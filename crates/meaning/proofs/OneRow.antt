@@ -1,146 +1,87 @@
--- What an accepted table tells about one row, and each way out of the test of one.
-use Prim.Native.Nat.{ℕ, ◌+◌, ◌-◌, ◌*◌, ◌/◌, ◌%◌, ◌<◌, ◌≤◌}
-use mathlib.Core.Path.{◌≡◌, refl}
-use mathlib.Core.Bool.{Bool, true, false, cond, ◌&&◌, false≢true, true≢false}
-use mathlib.Core.List.{List}
-use native.Mathlib.Omega.{arith}
-use lib.Dec.{leb, eqb}
-use lib.ListN.{length}
-use mir.Syntax.{w32}
-use mir.Val.{to_z}
-use mathlib.Core.Logic.{◌⊎◌, inl, inr, ⊎_elim}
-use borrow.Author.Tests.{leb-true, ne_eqb, eqb-true, eqb-false}
-use Rattle.table.specs.Kinds.{Head, Clause, Linear, Order, Check, Unknown, kind_of, is_row}
-use Rattle.table.specs.Lists.{every}
-use Rattle.table.specs.Words.{u16_at, u32_at, i32_at, words}
-use Rattle.table.specs.Rows.{terms, row_of, row_at, clause_at, linear_at, kind_at, length_at}
-use Rattle.table.specs.Limits.{within, term_in_range, row_in_range, most_literals, most_terms}
+-- What an accepted table tells about one row: it stands whole, with a role in range, and names only variables that there are.
+use Rattle.std.proofs.Common.{◌≡◌, false, sym, true≢false, ℕ, zero, suc, ◌+◌, ◌-◌, ◌/◌, ◌≤◌, true, leb, List, length, refl, ap, arith, leb-true}
+use Rattle.table.specs.declared.kinds.Kind.{Kind}
+use Rattle.table.specs.declared.kinds.Kind.TheVariants.{Head, Clause, Linear, Order, Check, Unknown}
+use Rattle.table.specs.Kinds.{is_row}
+use Rattle.table.specs.Words.{u16_at}
+use Rattle.table.specs.Rows.{Row, clause, linear, terms, row_of, row_at, clause_at, linear_at, kind_at, length_at}
+use Rattle.table.specs.Limits.{row_in_range}
 use Rattle.table.specs.Tests.{length_right}
 use Rattle.table.specs.Kept.{RowKept}
-use Rattle.meaning.specs.Meaning.{role_of}
-use Rattle.meaning.specs.HalfMade.{Values}
-use Rattle.meaning.specs.States.{clause_state, linear_state, row_state}
-use Rattle.meaning.specs.WholeRows.{LiteralsAsked, TermsAsked, RowAsked, RowsAsked}
+use Rattle.table.specs.RowParts.{RowWhole}
+use Rattle.table.proofs.RowRule.{long_enough, least_two}
 use Rattle.table.proofs.Steps.{both}
+use Rattle.meaning.specs.Meaning.{role_of}
+use Rattle.meaning.specs.WholeRows.{RowNamed, RowAsked, RowsAsked}
 
--- kind 2 is a clause
-kind_two : (k : ℕ) → k ≡ 2 → kind_of k ≡ Clause
-unfolding kind_of
-kind_two k e = rw e
+no_row : {X : Type 0} → false ≡ true → X
+no_row e = absurd (true≢false (sym e))
 
--- a row of another kind is linear
-kind_other : (k : ℕ) → is_row (kind_of k) ≡ true → (k ≡ 2 → ⊥) → kind_of k ≡ Linear
-unfolding kind_of is_row
-kind_other k row other = go (eqb k 1) (eqb k 2) (eqb k 3) (eqb k 4) (eqb k 5) row (ne_eqb k 2 other)
-  where
-    go :
-        (a b c d e : Bool) →
-        is_row (cond a Head (cond b Clause (cond c Linear (cond d Order (cond e Check Unknown))))) ≡ true →
-        b ≡ false →
-        cond a Head (cond b Clause (cond c Linear (cond d Order (cond e Check Unknown)))) ≡ Linear
-    go true b c d e row f = absurd (false≢true row)
-    go false true c d e row f = absurd (true≢false f)
-    go false false true d e row f = refl
-    go false false false true e row f = absurd (false≢true row)
-    go false false false false true row f = absurd (false≢true row)
-    go false false false false false row f = absurd (false≢true row)
+-- a row's terms are as many as its length tells
+length_terms : (k : ℕ) (t : List ℕ) (at : ℕ) → length (terms k t at) ≡ k
+unfolding terms
+length_terms zero t at = refl
+length_terms (suc k) t at = ap suc (length_terms k t (at + 6))
 
--- a CLAUSE record of an accepted table, with v variables and n requests
-pub record ClauseKept (v n : ℕ) (t : List ℕ) (at : ℕ) : Type 0 where
-  pub kind : kind_at t at ≡ Clause
-  pub long : 2 ≤ length_at t at
-  pub role : u16_at t (at + 4) ≤ n
-  pub literals : every (within 0 (2 * v)) (words ((length_at t at - 2) / 2) t (at + 6)) ≡ true
+-- a row in range has its role in range
+role_in_range : (v n : ℕ) (row : Row) → row_in_range v n row ≡ true → role_of row ≤ n
+unfolding row_in_range role_of
+role_in_range v n (clause role literals) e = leb-true role n (both _ _ e).0
+role_in_range v n (linear role bound row_terms) e = leb-true role n (both _ _ e).0
 
--- a LINEAR record
-pub record LinearKept (v n : ℕ) (t : List ℕ) (at : ℕ) : Type 0 where
-  pub kind : kind_at t at ≡ Linear
-  pub long : 6 ≤ length_at t at
-  pub role : u16_at t (at + 4) ≤ n
-  pub row_terms : every (term_in_range v) (terms ((length_at t at - 6) / 6) t (at + 10)) ≡ true
+-- the role stands at one place in both kinds of rows
+role_stands : (kind : Kind) (t : List ℕ) (at : ℕ) → role_of (row_of kind t at) ≡ u16_at t (at + 4)
+unfolding role_of row_of clause_at linear_at
+role_stands Head t at = refl
+role_stands Clause t at = refl
+role_stands Linear t at = refl
+role_stands Order t at = refl
+role_stands Check t at = refl
+role_stands Unknown t at = refl
+
+-- a row of a right length and in range names only variables that there are
+named_by :
+    (kind : Kind) (v n : ℕ) (t : List ℕ) (at : ℕ) →
+    is_row kind ≡ true →
+    length_right kind n (length_at t at) ≡ true →
+    row_in_range v n (row_of kind t at) ≡ true →
+    RowNamed v (row_of kind t at)
+unfolding is_row length_right row_in_range row_of clause_at linear_at RowNamed
+named_by Head v n t at row right range = no_row row
+named_by Clause v n t at row right range = record { named = (both _ _ range).1 }
+named_by Linear v n t at row right range =
+    let most : length_at t at ≤ 126 = leb-true (length_at t at) 126 (both (leb 6 (length_at t at)) (leb (length_at t at) 126) (both _ _ right).0).1 in
+    record { few = omega (arith, length_terms ((length_at t at - 6) / 6) t (at + 10)); named = (both _ _ range).1 }
+named_by Order v n t at row right range = no_row row
+named_by Check v n t at row right range = no_row row
+named_by Unknown v n t at row right range = no_row row
 
 module _ (v n : ℕ) (t : List ℕ) (at : ℕ) (kept : RowKept v n t at) where
-  pub clause_kept : u16_at t (at + 2) ≡ 2 → ClauseKept v n t at
-  unfolding length_right row_in_range row_of clause_at
-  clause_kept e =
-      let k : kind_at t at ≡ Clause = kind_two (u16_at t (at + 2)) e in
-      let right : (leb 2 (length_at t at) && leb (length_at t at) (2 + 2 * most_literals) && eqb (length_at t at % 2) 0) ≡ true = rw k at kept.right in
-      let range : row_in_range v n (clause_at t at) ≡ true = rw k at kept.is_in_range in
-      let parts : (leb (u16_at t (at + 4)) n ≡ true) × (every (within 0 (2 * v)) (words ((length_at t at - 2) / 2) t (at + 6)) ≡ true) = both _ _ range in
-      record {
-        kind = k;
-        long = leb-true 2 (length_at t at) (both _ _ (both _ _ right).0).0;
-        role = leb-true (u16_at t (at + 4)) n parts.0;
-        literals = parts.1;
-      }
+  -- it stands whole in the table
+  pub kept_whole : RowWhole t at
+  kept_whole = record { whole = kept.whole; long = long_enough (kind_at t at) n (length_at t at) kept.row kept.right }
 
-  pub linear_kept : (u16_at t (at + 2) ≡ 2 → ⊥) → LinearKept v n t at
-  unfolding length_right row_in_range row_of linear_at
-  linear_kept other =
-      let k : kind_at t at ≡ Linear = kind_other (u16_at t (at + 2)) kept.row other in
-      let right : (leb 6 (length_at t at) && leb (length_at t at) (6 + 6 * most_terms) && eqb (length_at t at % 6) 0) ≡ true = rw k at kept.right in
-      let range : row_in_range v n (linear_at t at) ≡ true = rw k at kept.is_in_range in
-      let parts : (leb (u16_at t (at + 4)) n ≡ true) × (every (term_in_range v) (terms ((length_at t at - 6) / 6) t (at + 10)) ≡ true) = both _ _ range in
-      record {
-        kind = k;
-        long = leb-true 6 (length_at t at) (both _ _ (both _ _ right).0).0;
-        role = leb-true (u16_at t (at + 4)) n parts.0;
-        row_terms = parts.1;
-      }
+  -- it names only variables that there are
+  pub kept_named : RowNamed v (row_at t at)
+  kept_named = named_by (kind_at t at) v n t at kept.row kept.right kept.is_in_range
 
-  -- a row is one or the other
-  either_kept : ClauseKept v n t at ⊎ LinearKept v n t at
-  either_kept = go (eqb (u16_at t (at + 2)) 2) refl
-    where
-      go : (two : Bool) → eqb (u16_at t (at + 2)) 2 ≡ two → ClauseKept v n t at ⊎ LinearKept v n t at
-      go true e = inl (clause_kept (eqb-true (u16_at t (at + 2)) 2 e))
-      go false e = inr (linear_kept (eqb-false (u16_at t (at + 2)) 2 e))
-
-  -- a row has its role, in range
+  -- it has its role, in range
   pub row_long : 2 ≤ length_at t at
-  row_long = ⊎_elim (λ c. c.long) (λ l. let h : 6 ≤ length_at t at = l.long in omega arith) either_kept
-
-  pub row_role : u16_at t (at + 4) ≤ n
-  row_role = ⊎_elim (λ c. c.role) (λ l. l.role) either_kept
+  row_long = omega (arith, kept_whole.long, least_two (kind_at t at))
 
   pub role_at : role_of (row_at t at) ≡ u16_at t (at + 4)
-  unfolding role_of row_of clause_at linear_at
-  role_at = ⊎_elim (λ c. rw c.kind) (λ l. rw l.kind) either_kept
+  role_at = role_stands (kind_at t at) t at
 
-module _ (t : List ℕ) (at variables : ℕ) (asked : RowAsked t at variables) (body : ℕ) (size : body ≡ length_at t at) where
-  -- its literals stand in the table, and each names a variable
-  pub clause_asked : u16_at t (at + 2) ≡ 2 → LiteralsAsked t (at + 6) ((body - 2) / 2) variables
-  clause_asked two =
-      let kept : ClauseKept variables asked.requests t at = clause_kept variables asked.requests t at asked.row_kept two in
-      record { whole = omega (arith, asked.row_kept.whole, kept.long); named = rw size kept.literals }
+  pub row_role : u16_at t (at + 4) ≤ n
+  row_role = rw role_at at (role_in_range v n (row_at t at) kept.is_in_range)
 
-  -- its bound and its terms stand in the table, and each term names a variable
-  pub linear_long : (u16_at t (at + 2) ≡ 2 → ⊥) → (6 ≤ body) × (at + 6 + 3 < length t)
-  linear_long other =
-      let kept : LinearKept variables asked.requests t at = linear_kept variables asked.requests t at asked.row_kept other in
-      (omega (arith, kept.long), omega (arith, asked.row_kept.whole, kept.long))
+-- so does a row that may be read
+module _ (t : List ℕ) (at variables : ℕ) (asked : RowAsked t at variables) where
+  pub asked_whole : RowWhole t at
+  asked_whole = kept_whole variables asked.requests t at asked.row_kept
 
-  pub linear_asked : (u16_at t (at + 2) ≡ 2 → ⊥) → body < 65536 → TermsAsked t (at + 10) ((body - 6) / 6) variables
-  linear_asked other small =
-      let kept : LinearKept variables asked.requests t at = linear_kept variables asked.requests t at asked.row_kept other in
-      record { whole = omega (arith, asked.row_kept.whole, kept.long); few = omega arith; named = rw size kept.row_terms }
-
-  -- a clause
-  pub clause_tested :
-      u16_at t (at + 2) ≡ 2 →
-      (values : Values) (state : ℕ) → state ≡ clause_state values (words ((body - 2) / 2) t (at + 6)) → state ≡ row_state values (row_at t at)
-  unfolding row_state row_of clause_at
-  clause_tested two values state e = rw ((clause_kept variables asked.requests t at asked.row_kept two).kind, ← size) e
-
-  -- a linear row
-  pub linear_tested :
-      (u16_at t (at + 2) ≡ 2 → ⊥) →
-      (values : Values) (state bound : ℕ) →
-      bound ≡ u32_at t (at + 6) →
-      state ≡ linear_state values (to_z w32 bound) (terms ((body - 6) / 6) t (at + 10)) →
-      state ≡ row_state values (row_at t at)
-  unfolding row_state row_of linear_at i32_at
-  linear_tested other values state bound f e = rw ((linear_kept variables asked.requests t at asked.row_kept other).kind, ← size, ← f) e
+  pub asked_named : RowNamed variables (row_at t at)
+  asked_named = kept_named variables asked.requests t at asked.row_kept
 
 -- where more rows may be read, fewer may
 pub asked_fewer : (t places : List ℕ) (few many variables : ℕ) → few ≤ many → RowsAsked t places many variables → RowsAsked t places few variables

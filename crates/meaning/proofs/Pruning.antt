@@ -1,17 +1,14 @@
--- Why the state of a row loses no setting: no completion meets a row in state 2, and every completion meets one in state 0.
-use Prim.Native.Nat.{ℕ, ◌/◌, ◌%◌, ◌<◌, ◌≤◌}
-use mathlib.Core.Path.{◌≡◌, refl, ap₂}
-use mathlib.Core.Bool.{Bool, true, false, not, cond, ◌&&◌, ◌||◌, false≢true}
-use mathlib.Core.List.{List, [], ◌∷◌}
-use native.Mathlib.Omega.{arith}
-use lib.Dec.{eqb}
-use lib.IntN.{ℤ, pos, negsuc, ◌+ℤ◌, ◌*ℤ◌, *ℤ-one, *ℤ-zero, one}
+-- Why the state of a row loses no setting: no completion meets a row that fails, and every completion meets one that is met.
+use Rattle.std.proofs.Common.{ℕ, ◌/◌, ◌%◌, ◌≡◌, refl, ap₂, Bool, true, false, not, cond, ◌&&◌}
+use Rattle.std.proofs.Common.{◌||◌, List, [], ◌∷◌, arith, eqb, ℤ, pos, negsuc, ◌+ℤ◌, ◌*ℤ◌, le-leb}
+use mathlib.Core.Bool.{false≢true}
+use lib.IntN.{*ℤ-one, *ℤ-zero, one}
 use lib.Signed.{le_z}
-use borrow.Author.Tests.{le-leb}
-use Rattle.table.specs.Rows.{Term, Row, clause, linear}
+use Rattle.table.specs.declared.terms.Term.{Term}
+use Rattle.table.specs.Rows.{Row, clause, linear}
 use Rattle.meaning.specs.Meaning.{Setting, is_one, is_true, value_of, product, sum_of, meets}
 use Rattle.meaning.specs.HalfMade.{Values, is_free, is_set, Agrees}
-use Rattle.meaning.specs.States.{is_decided_true, may_be_true, must_be_true, negative_of, positive_of}
+use Rattle.meaning.specs.States.{Met, Fails, may_be_true, must_be_true, negative_of, positive_of}
 use Rattle.meaning.specs.States.{at_end, sum_at_end, clause_state, linear_state, row_state}
 use Rattle.meaning.proofs.Differences.{same_le, le-le, sums-le}
 use Rattle.meaning.proofs.Tested.{any_more}
@@ -44,7 +41,7 @@ free_most (negsuc n) false = refl
 -- the setting is a completion: it has the decided values
 module _ (values : Values) (setting : Setting) (agrees : Agrees values setting) where
   true_may_be : (literal : ℕ) → is_true setting literal ≡ true → may_be_true values literal ≡ true
-  unfolding may_be_true is_decided_true is_true
+  unfolding may_be_true is_true
   true_may_be literal e = go (is_free values (literal / 2)) refl
     where
       go :
@@ -55,7 +52,7 @@ module _ (values : Values) (setting : Setting) (agrees : Agrees values setting) 
       go false p = rw (← agrees.decided (literal / 2) p) e
 
   must_be_true_lem : (literal : ℕ) → must_be_true values literal ≡ true → is_true setting literal ≡ true
-  unfolding must_be_true is_decided_true is_true
+  unfolding must_be_true is_true
   must_be_true_lem literal e = go (is_free values (literal / 2)) refl e
     where
       go :
@@ -100,14 +97,14 @@ module _ (values : Values) (setting : Setting) (agrees : Agrees values setting) 
       (between positive_of (λ x y. le_z y x ≡ true) same_le free_most term)
       (most_sum more)
 
-  -- no completion meets a row in state 2
-  pub no_completion_meets : (row : Row) → 1 < row_state values row → meets setting row ≡ true → ⊥
+  -- no completion meets a row that fails
+  pub no_completion_meets : (row : Row) → Fails ≡ row_state values row → meets setting row ≡ true → ⊥
   unfolding row_state clause_state linear_state meets
   no_completion_meets (clause role literals) = never_holds _ _ _ (any_more (is_true setting) (may_be_true values) true_may_be literals)
   no_completion_meets (linear role bound ts) = never_holds _ _ _ (le-le (sum_at_end negative_of values ts) (sum_of setting ts) bound (least_sum ts))
 
-  -- every completion meets a row in state 0
-  pub every_completion_meets : (row : Row) → 0 ≡ row_state values row → meets setting row ≡ true
+  -- every completion meets a row that is met
+  pub every_completion_meets : (row : Row) → Met ≡ row_state values row → meets setting row ≡ true
   unfolding row_state clause_state linear_state meets
   every_completion_meets (clause role literals) = always_holds _ _ _ (any_more (must_be_true values) (is_true setting) must_be_true_lem literals)
   every_completion_meets (linear role bound ts) = always_holds _ _ _ (le-le (sum_of setting ts) (sum_at_end positive_of values ts) bound (most_sum ts))
@@ -115,7 +112,7 @@ module _ (values : Values) (setting : Setting) (agrees : Agrees values setting) 
   -- with no variable free
   module _ (none : (variable : ℕ) → is_free values variable ≡ false) where
     may_be_true_lem : (literal : ℕ) → may_be_true values literal ≡ true → is_true setting literal ≡ true
-    unfolding may_be_true is_decided_true is_true
+    unfolding may_be_true is_true
     may_be_true_lem literal e = rw (agrees.decided (literal / 2) (none (literal / 2))) (rw (none (literal / 2)) at e)
 
     term_exact : (term : Term) → at_end negative_of values term ≡ product setting term
@@ -127,8 +124,8 @@ module _ (values : Values) (setting : Setting) (agrees : Agrees values setting) 
     sum_exact [] = refl
     sum_exact (term ∷ more) = ap₂ (λ (x y : ℤ). x +ℤ y) (term_exact term) (sum_exact more)
 
-    -- the one completion meets every row that is not in state 2
-    pub decided_meets : (row : Row) → row_state values row ≤ 1 → meets setting row ≡ true
+    -- the one completion meets every row that does not fail
+    pub decided_meets : (row : Row) → (Fails ≡ row_state values row → ⊥) → meets setting row ≡ true
     unfolding row_state clause_state linear_state meets
     decided_meets (clause role literals) =
         otherwise_holds _ _ _ (any_more (may_be_true values) (is_true setting) may_be_true_lem literals)

@@ -1,10 +1,6 @@
 -- A repeated literal changes nothing (document 01, "Meaning").
-use Prim.Native.Nat.{ℕ}
-use mathlib.Core.Path.{◌≡◌, refl, sym, ap, ◌∙◌}
-use mathlib.Core.Bool.{Bool, true, false, ◌||◌, or-true}
-use mathlib.Core.List.{List, [], ◌∷◌, ◌++◌}
-use lib.Dec.{eqb}
-use borrow.Author.Tests.{eqb-true}
+use Rattle.std.proofs.Common.{ℕ, ◌≡◌, refl, sym, ap, ◌∙◌, Bool, true, false, ◌||◌, List, [], ◌∷◌, ◌++◌, eqb, eqb-true}
+use mathlib.Core.Bool.{or-true}
 use Rattle.table.specs.Lists.{among}
 use Rattle.table.specs.Rows.{clause}
 use Rattle.meaning.specs.Meaning.{Setting, is_true, any_of, meets}
@@ -12,13 +8,11 @@ use Rattle.meaning.specs.Meaning.{Setting, is_true, any_of, meets}
 module _ (test : ℕ → Bool) (x : ℕ) where
   -- an element that fails the test may be left out
   failing_left_out : test x ≡ false → (front back : List ℕ) → any_of test (front ++ (x ∷ back)) ≡ any_of test (front ++ back)
-  unfolding any_of
   failing_left_out fails [] back = rw fails
   failing_left_out fails (first ∷ front) back = ap (λ (b : Bool). test first || b) (failing_left_out fails front back)
 
   -- one that passes makes some element pass, wherever it stands
   passing_among : test x ≡ true → (xs : List ℕ) → among x xs ≡ true → any_of test xs ≡ true
-  unfolding any_of among
   passing_among passes [] h = h
   passing_among passes (first ∷ xs) h = by (eqb x first) refl (λ later. passing_among passes xs later)
     where
@@ -27,7 +21,6 @@ module _ (test : ℕ → Bool) (x : ℕ) where
       by false e later = rw (later (rw e at h)) (or-true (test first))
 
   passing_stands : test x ≡ true → (front back : List ℕ) → any_of test (front ++ (x ∷ back)) ≡ true
-  unfolding any_of
   passing_stands passes [] back = rw passes
   passing_stands passes (first ∷ front) back = rw (passing_stands passes front back) (or-true (test first))
 

@@ -1,14 +1,8 @@
 -- What `stands` says in a reader's words.
-use Prim.Native.Nat.{ℕ, zero, suc, ◌+◌, ◌<◌, ◌≤◌}
-use mathlib.Core.Path.{◌≡◌, refl, ap, ◌∙◌}
-use mathlib.Core.Logic.{◌⊎◌, inl, inr, ◌↔◌}
-use mathlib.Core.Bool.{Bool, true, false, ◌||◌, or-true}
-use mathlib.Core.List.{List, [], ◌∷◌, Memᴰ}
-use native.Mathlib.Omega.{arith}
-use lib.Dec.{eqb}
-use lib.ListN.{length, drop, get_or, drop_of_length-le}
-use lib.Seq.{drop-cons}
-use borrow.Author.Tests.{eq-eqb, eqb-true}
+use Rattle.std.proofs.Common.{ℕ, zero, suc, ◌+◌, ◌<◌, ◌≤◌, ◌≡◌, refl, ap, ◌∙◌, ◌⊎◌, inl, inr, ◌↔◌, Bool, true, false, ◌||◌}
+use Rattle.std.proofs.Common.{List, [], ◌∷◌, arith, eqb, length, drop, get_or, drop_of_length-le, drop-cons, eq-eqb, eqb-true}
+use mathlib.Core.Bool.{or-true}
+use mathlib.Core.List.{Memᴰ}
 use Rattle.table.specs.Rows.{Row}
 use Rattle.meaning.specs.Meaning.{Setting, meets, role_of, counts, respects, meets_all}
 use Rattle.meaning.specs.Stands.{some_setting, stands, Meeting}

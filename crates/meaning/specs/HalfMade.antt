@@ -1,18 +1,18 @@
--- Half-made settings: a number for each variable, 0 or 1 where it is decided, 2 where it is not.
-use Rattle.std.specs.Prelude.{ℕ, ◌+◌, ◌≡◌, Bool, false, List, [], ◌∷◌, eqb, length, get_or}
+-- Half-made settings: the value of each variable that is decided, and none for one that is not.
+use Rattle.std.specs.Prelude.{ℕ, ◌+◌, ◌≡◌, Bool, false, List, [], ◌∷◌, length, get_or, Option, Some, is_none, unwrap_or}
 use Rattle.meaning.specs.Meaning.{Setting, value_of}
 
 -- a half-made setting, variable 0 first
 abbrev pub Values : Type 0
-Values = List ℕ
+Values = List (Option Bool)
 
 -- the variable is not decided
 abbrev pub is_free : Values → ℕ → Bool
-is_free values variable = eqb (get_or values variable 0) 2
+is_free values variable = is_none (get_or values variable (Some false))
 
 -- the variable is decided, and 1
 abbrev pub is_set : Values → ℕ → Bool
-is_set values variable = eqb (get_or values variable 0) 1
+is_set values variable = unwrap_or (get_or values variable (Some false)) false
 
 -- the setting has a value for each variable, and the decided ones
 pub record Agrees (values : Values) (setting : Setting) : Type 0 where
@@ -22,4 +22,4 @@ pub record Agrees (values : Values) (setting : Setting) : Type 0 where
 -- how many variables are not decided
 unfoldable pub undecided : Values → ℕ
 undecided [] = 0
-undecided (value ∷ more) = value_of (eqb value 2) + undecided more
+undecided (value ∷ more) = value_of (is_none value) + undecided more

@@ -1,8 +1,10 @@
 -- What a setting is, and when it meets a row (document 01, "Meaning").
 use Rattle.std.specs.Prelude.{ℕ, ◌/◌, ◌%◌, Bool, true, false, not, cond, ◌||◌, List, [], ◌∷◌, eqb, get_or, ℤ, pos, ◌+ℤ◌, ◌*ℤ◌}
 use Rattle.std.specs.Int.Signed.{le_z}
+use Rattle.std.specs.List.{list_any}
 use Rattle.table.specs.Lists.{every}
-use Rattle.table.specs.Rows.{Term, Row, clause, linear}
+use Rattle.table.specs.declared.terms.Term.{Term}
+use Rattle.table.specs.Rows.{Row, clause, linear}
 
 -- a setting gives each variable 0 or 1, variable 0 first: false is 0, true is 1
 abbrev pub Setting : Type 0
@@ -17,9 +19,8 @@ unfoldable pub is_true : Setting → ℕ → Bool
 is_true setting literal = cond (eqb (literal % 2) 0) (is_one setting (literal / 2)) (not (is_one setting (literal / 2)))
 
 -- at least one element passes the test
-unfoldable pub any_of : {A : Type 0} → (A → Bool) → List A → Bool
-any_of test [] = false
-any_of test (x ∷ xs) = test x || any_of test xs
+abbrev pub any_of : {A : Type 0} → (A → Bool) → List A → Bool
+any_of test xs = list_any test xs
 
 -- a variable's value as a number
 unfoldable pub value_of : Bool → ℕ

@@ -1,25 +1,22 @@
-// The state of a row under a half-made setting, by its place in the table.
+// The state of a row under a half-made setting.
 ghost use Rattle.std.specs.Prelude.{◌≡◌, length};
-ghost use Rattle.table.specs.Rows.{row_at};
-ghost use Rattle.meaning.specs.WholeRows.{RowAsked};
+ghost use Rattle.table.specs.RowParts.{meant};
+ghost use Rattle.meaning.specs.WholeRows.{RowNamed};
 ghost use Rattle.meaning.specs.States.{row_state};
 
 use crate::literals::clause_state;
+use crate::state::State;
 use crate::terms::linear_state;
-use table::words::{long_number, number};
+use table::rows::Row;
 
-// The kind of a CLAUSE record.
-pub const CLAUSE: usize = 2;
-
-// The state of the row at a place: 0, every completion meets it; 1, it is open; 2, no completion meets it.
-pub fn row_state(table: &[u8], at: usize, values: &[u8]) -> usize
-    requires { RowAsked table.now at (length values.now) }
-    ensures { result ≡ row_state values.now (row_at table.now at) }
+// The state of a row.
+#[tactic(auto, unfolding(crate::specs::WholeRows::RowNamed, crate::specs::States::row_state, table::specs::RowParts::meant))]
+pub fn row_state(row: Row<'_>, values: &[Option<bool>]) -> State
+    requires { RowNamed (length values.now) (meant row) }
+    ensures { result ≡ row_state values.now (meant row.entry) }
 {
-    let body = number(table, at);
-    if number(table, at + 2) == CLAUSE {
-        return clause_state(table, at + 6, (body - 2) / 2, values);
+    match row {
+        Row::Clause { literals, .. } => clause_state(literals, values),
+        Row::Linear { bound, terms, .. } => linear_state(terms, bound, values),
     }
-    let bound = long_number(table, at + 6);
-    linear_state(table, at + 10, (body - 6) / 6, bound, values)
 }

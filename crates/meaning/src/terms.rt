@@ -1,91 +1,71 @@
 // The state of a linear row under a half-made setting, by the least and the most that its terms can add up to. Both sums are exact for any
-// i32 weights: each term is added with 2^31 more, so that nothing lies below 0.
-ghost use Rattle.std.specs.Prelude.{◌≡◌, cond, ◌+◌, ◌<◌, ◌≤◌, eqb, length, pos, ◌+ℤ◌};
-ghost use Rattle.std.specs.Int.{w32};
-ghost use Rattle.std.proofs.Common.{to_z};
-ghost use Rattle.table.specs.Words.{u16_at};
-ghost use Rattle.table.specs.Rows.{terms};
-ghost use Rattle.meaning.specs.Meaning.{value_of};
+// i32 weights: so many terms as a row can have do not add up to an i64's limits.
+ghost use Rattle.std.specs.Prelude.{◌≡◌, ◌<◌, cond, [], ◌∷◌, length, map, pos};
+ghost use Rattle.table.specs.Rows.{term_in};
 ghost use Rattle.meaning.specs.States.{EndsTold, linear_state};
-ghost use Rattle.meaning.specs.WholeRows.{TermsAsked};
+ghost use Rattle.meaning.specs.WholeRows.{TermsNamed};
 
-use crate::half_made::UNDECIDED;
-use table::words::{long_number, number};
+use crate::state::State;
+use table::terms::{Term, term_in};
 
-// 2^31: from here on 32 bits are those of a negative i32.
-pub const HALF: usize = 2147483648;
-
-// The i32 with these 32 bits, and 2^31 more.
-pub fn raised(bits: usize) -> usize
-    requires { bits < 4294967296 }
-    ensures { (pos result ≡ to_z w32 bits +ℤ pos 2147483648) × (result < 4294967296) }
-{
-    (bits + HALF) % 4294967296
-}
-
-// How often a weight counts in a sum, 0 or 1: with its variable undecided as often as is said, else where the variable is 1. Products
-// instead of tests leave the compiled code no branch to mispredict.
-fn times(value: u8, free: usize) -> usize
-    requires { free ≤ 1 }
-    ensures { result ≡ cond (eqb value 2) free (value_of (eqb value 1)) }
-{
-    let undecided = value == UNDECIDED;
-    let one = value == 1;
-    free * (undecided as usize) + one as usize
-}
-
-// The least and the most that some terms can add up to, each with 2^31 more for every term.
+// The least and the most that some terms can add up to.
 #[derive(Clone, Copy)]
 pub struct Ends {
-    pub least: usize,
-    pub most: usize,
+    pub least: i64,
+    pub most: i64,
 }
 
-// Both ends of what the one term at a place can come to: with its variable undecided, its weight counts in the least where it is negative
-// and in the most where it is not.
-fn ends_of_term(table: &[u8], at: usize, values: &[u8]) -> Ends
-    requires { (at + 5 < length table.now) × (u16_at table.now at < length values.now) }
-    ensures { EndsTold values.now (terms 1 table.now at) 1 result.least result.most }
+// A weight where it counts, else 0. The product instead of a test leaves the compiled code no branch to mispredict.
+fn counted(weight: i32, counts: bool) -> i64
+    ensures { result ≡ cond counts weight (pos 0) }
 {
-    let variable = number(table, at);
-    let bits = long_number(table, at + 2);
-    let value = values[variable];
-    let least = raised(bits * times(value, bits / HALF));
-    let most = raised(bits * times(value, 1 - bits / HALF));
+    i64::from(weight) * i64::from(counts)
+}
+
+// Both ends of what a term can come to: with its variable undecided, its weight counts in the least where it is negative and in the most
+// where it is not.
+fn ends_of_term(term: Term, values: &[Option<bool>]) -> Ends
+    requires { term.variable < length values.now }
+    ensures { EndsTold values.now (term ∷ []) result.least result.most }
+{
+    let value = values[term.variable];
+    let undecided = value.is_none();
+    let decided = counted(term.weight, value == Some(true));
+    let least = decided + counted(term.weight.min(0), undecided);
+    let most = decided + counted(term.weight.max(0), undecided);
     Ends { least, most }
 }
 
-// Both ends of what the `count` terms from `from` on can add up to.
-pub fn ends_of(table: &[u8], from: usize, count: usize, values: &[u8]) -> Ends
-    requires { TermsAsked table.now from count (length values.now) }
-    ensures { EndsTold values.now (terms count table.now from) count result.least result.most }
+// Both ends of what some terms can add up to.
+// Kept: that the terms name variables which there are is asked of each function by itself. It is a fact of terms and values, and a struct of both
+// would be made anew, with the same proof, for each row that is read.
+pub fn ends_of(terms: &[[u8; 6]], values: &[Option<bool>]) -> Ends
+    requires { TermsNamed (length values.now) (map term_in terms.now) }
+    ensures { EndsTold values.now (map term_in terms.now) result.least result.most }
 {
     let mut least = 0;
     let mut most = 0;
-    let mut at = from;
-    let mut left = count;
-    while 0 < left {
-        let term = ends_of_term(table, at, values);
-        least = least + term.least;
-        most = most + term.most;
-        at = at + 6;
-        left = left - 1;
+    for term in terms {
+        let here = ends_of_term(term_in(term), values);
+        least += here.least;
+        most += here.most;
     }
     Ends { least, most }
 }
 
-// The state of the row of the `count` terms from `from` on and the bound with these 32 bits.
-pub fn linear_state(table: &[u8], from: usize, count: usize, bound: usize, values: &[u8]) -> usize
-    requires { TermsAsked table.now from count (length values.now) × (bound < 4294967296) }
-    ensures { result ≡ linear_state values.now (to_z w32 bound) (terms count table.now from) }
+// The state of the row of some terms and a bound.
+#[tactic(auto, unfolding(crate::specs::States::linear_state))]
+pub fn linear_state(terms: &[[u8; 6]], bound: i32, values: &[Option<bool>]) -> State
+    requires { TermsNamed (length values.now) (map term_in terms.now) }
+    ensures { result ≡ linear_state values.now bound (map term_in terms.now) }
 {
-    let told = ends_of(table, from, count, values);
-    let highest = raised(bound) + HALF * count;
-    if told.most + HALF <= highest {
-        return 0;
+    let told = ends_of(terms, values);
+    let bound = i64::from(bound);
+    if told.most <= bound {
+        return State::Met;
     }
-    if told.least + HALF <= highest {
-        return 1;
+    if told.least <= bound {
+        return State::Open;
     }
-    2
+    State::Fails
 }

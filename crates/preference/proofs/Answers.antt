@@ -1,5 +1,5 @@
 -- The answers of the sample sheet and of Example 2, computed: one list under one claim.
-use mathlib.Core.Path.{refl}
+use Rattle.std.proofs.Common.{refl}
 use Rattle.preference.specs.Selection.{all, none}
 use Rattle.preference.specs.Part.{entered}
 use Rattle.preference.specs.OneByOne.{one_conflict, one_relax}

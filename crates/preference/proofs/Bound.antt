@@ -1,13 +1,6 @@
 -- How many questions a part of a halving method asks: at most 2kd, where k requests are found and no request lies under more than d cuts.
 -- k is the number of requests that a conflict keeps, and that a relaxation drops. No question need be monotone for this.
-use mathlib.Core.Path.{◌≡◌, refl, ◌∙◌}
-use mathlib.Core.Bool.{Bool, true, false, cond}
-use mathlib.Core.List.{[]}
-use Prim.Native.Nat.{ℕ, zero, suc, ◌+◌, ◌*◌, ◌≤◌}
-use native.Mathlib.Omega.{arith}
-use native.Mathlib.Nat.{mul-suc, add-mul}
-use lib.Dec.{ltb}
-use borrow.Author.Tests.{ltb-true, ltb-false}
+use Rattle.std.proofs.Common.{◌≡◌, refl, ◌∙◌, Bool, true, false, cond, [], ℕ, zero, suc, ◌+◌, ◌*◌, ◌≤◌, arith, mul-suc, add-mul, ltb, ltb-true, ltb-false}
 use Rattle.preference.specs.Selection.{Selection, kept, dropped}
 use Rattle.preference.specs.Question.{Question}
 use Rattle.preference.specs.Part.{Part, together, entered}

@@ -1,14 +1,7 @@
 -- A method's count is the number of questions that it asks: each part of a method, and the shared start, carried out by a program that can do
 -- nothing but ask (specs/Asking.antt). No question need be monotone for this.
-use mathlib.Core.Path.{◌≡◌, refl, sym, ap, ◌∙◌}
-use mathlib.Core.Bool.{Bool, true, false, not, cond}
-use mathlib.Core.List.{[], ◌∷◌, ◌++◌, append_assoc, append-nil}
-use Prim.Native.Nat.{ℕ, zero, suc, ◌+◌, ◌≤◌}
-use native.Mathlib.Omega.{arith}
-use native.Mathlib.Nat.{add-zero}
-use lib.ListN.{length}
-use lib.Dec.{ltb, eqb}
-use borrow.Author.Tests.{lt-ltb, ne_eqb}
+use Rattle.std.proofs.Common.{◌≡◌, refl, sym, ap, ◌∙◌, Bool, true, false, not, cond, [], ◌∷◌, ◌++◌, append_assoc}
+use Rattle.std.proofs.Common.{append-nil, ℕ, zero, suc, ◌+◌, ◌≤◌, arith, add-zero, length, ltb, eqb, lt-ltb, ne_eqb}
 use Rattle.preference.specs.Selection.{Selection, all, none, kept, dropped}
 use Rattle.preference.specs.Question.{Question}
 use Rattle.preference.specs.Part.{Part, together, entered}

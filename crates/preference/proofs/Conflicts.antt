@@ -1,10 +1,5 @@
 -- The theorems about a conflict, over the whole calls: each name reads as its statement.
-use mathlib.Core.Path.{◌≡◌, sym, ◌∙◌}
-use mathlib.Core.Bool.{true, false, true≢false}
-use mathlib.Core.List.{[]}
-use Prim.Native.Nat.{ℕ, ◌+◌, ◌*◌, ◌^◌, ◌≤◌}
-use native.Mathlib.Omega.{arith}
-use lib.ListN.{length, get_or}
+use Rattle.std.proofs.Common.{◌≡◌, sym, ◌∙◌, true, false, true≢false, [], ℕ, ◌+◌, ◌*◌, ◌^◌, ◌≤◌, arith, length, get_or}
 use Rattle.preference.specs.Selection.{Selection, all, none, kept}
 use Rattle.preference.specs.Question.{Question, Monotone, Agree, Conflict}
 use Rattle.preference.specs.Preference.{PreferredConflict}
@@ -42,7 +37,7 @@ module _ (ok : Question) (n : ℕ) where
     pub one_by_one_conflict_is_preferred : ok (all n) ≡ false → PreferredConflict ok n (conflict_one_by_one ok n).set
     one_by_one_conflict_is_preferred =
         by_start ok n (none n) (one_conflict ok n []) (λ a. ok (all n) ≡ false → PreferredConflict ok n a.set)
-        (λ h f. absurd (true≢false (sym h ∙ f))) (λ h z g f. no_request_is_preferred g) (λ h p g f. no_request_is_preferred g)
+        (λ h f. cc) (λ h z g f. no_request_is_preferred g) (λ h p g f. no_request_is_preferred g)
         (λ h p g f. one_by_one_finds_the_preferred_conflict ok n monotone h)
 
     -- halving gives the same status and the same conflict for every way of cutting

@@ -1,9 +1,6 @@
 -- "the count equals the method's questions" (document 01): each answer is what a program gives that can do nothing but ask (specs/Asking.antt), and its
 -- count is the number of questions that the program asks. For every question and every number of requests: no question need be monotone for this.
-use mathlib.Core.Path.{◌≡◌, refl, sym, ap}
-use mathlib.Core.List.{[], ◌∷◌, map}
-use Prim.Native.Nat.{ℕ}
-use lib.ListN.{length}
+use Rattle.std.proofs.Common.{◌≡◌, refl, sym, ap, [], ◌∷◌, map, ℕ, length}
 use Rattle.preference.specs.Selection.{all, none, kept, dropped}
 use Rattle.preference.specs.Named.{named}
 use Rattle.preference.specs.Question.{Question}

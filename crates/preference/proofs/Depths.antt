@@ -1,14 +1,8 @@
 -- The list of 65 entries keeps its rule, by one test that is computed over the whole list; and d for more requests than that.
-use mathlib.Core.Path.{◌≡◌, refl}
-use mathlib.Core.Bool.{Bool, true, false, ◌&&◌, ◌||◌, and-eq-true_iff}
-use mathlib.Core.List.{List, [], ◌∷◌}
-use Prim.Native.Nat.{ℕ, zero, suc, ◌+◌, ◌-◌, ◌/◌, ◌^◌, ◌≤◌, ◌<◌}
-use native.Mathlib.Omega.{arith}
-use native.Mathlib.Nat.{add-zero, pow-succ'}
-use lib.ListN.{length, get_or}
-use lib.Pow.{pow_mono}
-use lib.Dec.{leb, ltb, eqb}
-use borrow.Author.Tests.{leb-true, ltb-true, eqb-true, leb-false}
+use Rattle.std.proofs.Common.{◌≡◌, refl, Bool, true, false, ◌&&◌, ◌||◌, List, [], ◌∷◌, ℕ, zero, suc, ◌+◌, ◌-◌, ◌*◌, ◌/◌, ◌^◌, ◌≤◌, ◌<◌}
+use Rattle.std.proofs.Common.{arith, add-zero, add-one, length, get_or, pow_mono, leb, ltb, eqb, leb-true, ltb-true, eqb-true, leb-false}
+use Rattle.std.proofs.Math.Bool.{and-eq-true_iff}
+use Rattle.std.proofs.Math.Nat.{pow-succ'}
 use Rattle.preference.specs.Depth.{Depth, depths}
 
 -- a test passes at each entry of a list and its place, counted from i
@@ -64,9 +58,17 @@ one_cut_more n d h p =
         let f : n - n / 2 ≤ 2 ^ e = omega (arith, pow-succ' 2 e) in
         omega (arith, p.least e f)
 
--- what is known of d after some cuts is known after one cut more
-pub after_a_cut : (requests left cuts : ℕ) → 64 < left → ((d : ℕ) → Depth left d → Depth requests (cuts + d))
-    → (d : ℕ) → Depth (left - left / 2) d → Depth requests ((cuts + 1) + d)
-after_a_cut requests left cuts h known d p =
-    let e : (cuts + 1) + d ≡ cuts + suc d = omega arith in
-    rw e (known (suc d) (one_cut_more left d (omega arith) p))
+-- d is one more than the whole logarithm of the number before
+pub depth_of_logarithm : (n d : ℕ) → 0 < n → 2 ^ d ≤ n - 1 → n - 1 < 2 * 2 ^ d → Depth n (d + 1)
+depth_of_logarithm n d h low high =
+    let enough : n ≤ 2 ^ (suc d) = omega (arith, pow-succ' 2 d) in
+    record { enough = rw add-one enough; least = least_more }
+  where
+    least_more : (e : ℕ) → n ≤ 2 ^ e → d + 1 ≤ e
+    least_more e g = smaller (leb (d + 1) e) refl
+      where
+        smaller : (t : Bool) → leb (d + 1) e ≡ t → d + 1 ≤ e
+        smaller true l = leb-true (d + 1) e l
+        smaller false l =
+            let s : e ≤ d = omega (arith, leb-false (d + 1) e l) in
+            absurd (omega (arith, pow_mono s))

@@ -1,13 +1,6 @@
 -- Halving finds the one-by-one set for every cut, where the question is monotone over the n requests.
 -- A question is guarded so that it is monotone over all lists: of another length nothing stands.
-use mathlib.Core.Path.{◌≡◌, refl, sym, ap, ◌∙◌}
-use mathlib.Core.Bool.{Bool, true, false, ◌&&◌, true≢false}
-use mathlib.Core.List.{[]}
-use Prim.Native.Nat.{ℕ}
-use native.Mathlib.Omega.{arith}
-use lib.ListN.{length}
-use lib.Dec.{eqb}
-use borrow.Author.Tests.{eq-eqb, eqb-true}
+use Rattle.std.proofs.Common.{◌≡◌, refl, sym, ap, ◌∙◌, Bool, true, false, ◌&&◌, [], ℕ, arith, length, eqb, eq-eqb, eqb-true}
 use Rattle.preference.specs.Selection.{Selection, all, none, ◌⊆◌}
 use Rattle.preference.specs.Question.{Question, Monotone}
 use Rattle.preference.specs.OneByOne.{one_conflict, one_relax}
@@ -29,7 +22,7 @@ unfolding guarded
 guarded_monotone ok n monotone X Y r h = go (eqb (length Y) n) refl h
   where
     go : (b : Bool) → eqb (length Y) n ≡ b → b && ok Y ≡ true → eqb (length X) n && ok X ≡ true
-    go false e g = absurd (true≢false (sym g))
+    go false e g = cc
     go true e g =
         let l : length Y ≡ n = eqb-true (length Y) n e in
         rw (eq-eqb (length X) n (subset-length r ∙ l)) (monotone X Y l r g)

@@ -1,9 +1,5 @@
 -- However deep the cuts, a part of n requests finds at most n of them and asks at most 2n questions: what code needs for its sums to fit.
-use mathlib.Core.Path.{◌≡◌, refl}
-use mathlib.Core.Bool.{Bool, true, false, cond}
-use Prim.Native.Nat.{ℕ, ◌+◌, ◌*◌, ◌≤◌, ◌<◌}
-use native.Mathlib.Omega.{arith}
-use lib.Dec.{ltb}
+use Rattle.std.proofs.Common.{◌≡◌, refl, Bool, true, false, cond, ℕ, ◌+◌, ◌*◌, ◌≤◌, ◌<◌, arith, ltb}
 use Rattle.preference.specs.Selection.{Selection}
 use Rattle.preference.specs.Question.{Question}
 use Rattle.preference.specs.Part.{Part, together, entered}

@@ -1,11 +1,5 @@
 -- What a part of a halving method finds: a part that is worked finds a request, and a part that finds none was settled whole.
-use mathlib.Core.Path.{◌≡◌, refl}
-use mathlib.Core.Bool.{Bool, true, false, true≢false}
-use mathlib.Core.List.{◌++◌}
-use Prim.Native.Nat.{ℕ, ◌+◌, ◌≤◌}
-use native.Mathlib.Omega.{arith}
-use lib.Dec.{ltb}
-use borrow.Author.Tests.{ltb-true}
+use Rattle.std.proofs.Common.{◌≡◌, refl, Bool, true, false, ◌++◌, ℕ, ◌+◌, ◌≤◌, arith, ltb, ltb-true}
 use Rattle.preference.specs.Selection.{Selection, all, none}
 use Rattle.preference.specs.Question.{Question}
 use Rattle.preference.specs.Part.{Part, together, entered}
@@ -20,7 +14,7 @@ entered_finds : (ask matters : Bool) (settled : Selection) (w : Part) → 1 ≤ 
 unfolding entered
 entered_finds false matters settled w h = record { some = λ e. h; whole = λ e. absurd (omega arith) }
 entered_finds true true settled w h = record { some = λ e. h; whole = λ e. absurd (omega arith) }
-entered_finds true false settled w h = record { some = λ e. absurd (true≢false e); whole = λ e. refl }
+entered_finds true false settled w h = record { some = λ e. cc; whole = λ e. refl }
 
 -- two parts, the second entered with a question exactly when the first found something
 together_finds : (f g : ℕ) → (ltb 0 f ≡ false → 1 ≤ g) → 1 ≤ f + g

@@ -1,11 +1,5 @@
 -- Every set that a method gives is a selection of all its requests.
-use mathlib.Core.Path.{◌≡◌}
-use mathlib.Core.Bool.{Bool, true, false}
-use mathlib.Core.List.{[], ◌∷◌, ◌++◌}
-use Prim.Native.Nat.{ℕ, zero, suc, ◌+◌, ◌<◌}
-use native.Mathlib.Omega.{arith}
-use lib.ListN.{length, length-append}
-use lib.Dec.{ltb}
+use Rattle.std.proofs.Common.{◌≡◌, Bool, true, false, [], ◌∷◌, ◌++◌, ℕ, zero, suc, ◌+◌, ◌<◌, arith, length, length-append, ltb}
 use Rattle.preference.specs.Selection.{Selection, all, none}
 use Rattle.preference.specs.Question.{Question}
 use Rattle.preference.specs.Part.{Part, entered}

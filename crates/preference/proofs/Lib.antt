@@ -6,7 +6,7 @@
 --   Relaxations   the same of a relaxation
 --   Counts        each count is the number of questions that the method asks
 --   Link          Proposition 4, which links the two
---   Depths        the list of 65 entries keeps its rule
+--   Depths        the list of 65 entries keeps its rule, and d above it
 --   Answers       the rows of the sample sheet and Example 2, computed
 --   Turns         for code that carries the methods out: one law for each way out of a function
 --   Few           for the same code: its sums stay small

@@ -1,17 +1,14 @@
 -- Document 004, Proposition 4: the most important request left out of the preferred relaxation is the least important one of the preferred conflict.
-use mathlib.Core.Path.{◌≡◌, refl, sym, ap, ap₂, subst, ◌∙◌}
-use mathlib.Core.Bool.{Bool, true, false, true≢false}
-use mathlib.Core.List.{[], ◌∷◌, ◌++◌}
-use Prim.Native.Nat.{ℕ, zero, suc, ◌+◌, ◌-◌, ◌<◌}
-use native.Mathlib.Omega.{arith}
-use lib.ListN.{length, drop, get_or, length-append, length-drop}
-use lib.Seq.{split_at, take_at, get_or_at}
+use Rattle.std.proofs.Common.{◌≡◌, refl, sym, ap, ap₂, subst, ◌∙◌, Bool, true, false, true≢false, [], ◌∷◌, ◌++◌, ℕ}
+use Rattle.std.proofs.Common.{zero, suc, ◌+◌, ◌-◌, ◌<◌, arith, length, drop, get_or, length-append, length-drop, take_at}
+use Rattle.std.proofs.Math.Seq.{split_at, get_or_at}
+use Rattle.std.proofs.lemmas.List.{get_or_default}
 use Rattle.preference.specs.Selection.{Selection, all, none, ◌⊆◌, same}
 use Rattle.preference.specs.Question.{Question, Monotone}
 use Rattle.preference.specs.Preference.{LexBefore, AntilexBefore, PreferredRelaxation, PreferredConflict, MostImportantLeftOut, LeastImportantChosen}
 use Rattle.preference.specs.Cut.{Cuts}
 use Rattle.preference.specs.Answer.{conflict_by_cut, relaxation_by_cut}
-use Rattle.preference.proofs.Selections.{all_then_all, length-all, length_none, subset_refl, subset-append, subset-length, none-subset}
+use Rattle.preference.proofs.Selections.{in_selection, all_then_all, length-all, length_none, subset_refl, subset-append, subset-length, none-subset}
 use Rattle.preference.proofs.Orders.{antilex_later, subset_first}
 use Rattle.preference.proofs.Preferred.{within_without}
 use Rattle.preference.proofs.Start.{status_1}
@@ -26,17 +23,6 @@ first_left_out (true ∷ X) f =
     let (k, m) = first_left_out X (λ e. f (ap {B = Selection} (λ Z. true ∷ Z) e)) in
     (suc k, record { above = ap {B = Selection} (λ Z. true ∷ Z) m.above; left_out = m.left_out })
 
--- a place that is left out lies in the selection, and there the default does not matter
-left_out_in_range : (X : Selection) (k : ℕ) → get_or X k true ≡ false → k < length X
-left_out_in_range [] k e = absurd (true≢false e)
-left_out_in_range (b ∷ X) zero e = omega arith
-left_out_in_range (b ∷ X) (suc k) e = omega (arith, left_out_in_range X k e)
-
-any_default : (X : Selection) (k : ℕ) (a b : Bool) → k < length X → get_or X k a ≡ get_or X k b
-any_default [] k a b h = absurd (omega arith)
-any_default (x ∷ X) zero a b h = refl
-any_default (x ∷ X) (suc k) a b h = any_default X k a b (omega arith)
-
 -- a selection that the first k requests do not come before has none after them
 none_after : (k m : ℕ) (X : Selection) → length X ≡ k + m → (AntilexBefore (all k ++ none m) X → ⊥) → drop k X ≡ none m
 unfolding all
@@ -50,7 +36,7 @@ module _ (ok : Question) (n : ℕ) (monotone : Monotone ok n) {C R : Selection} 
     after = n - suc k
 
     in_order : k < n
-    in_order = let l : length R ≡ n = r.relaxation.over in omega (arith, left_out_in_range R k m.left_out)
+    in_order = let l : length R ≡ n = r.relaxation.over in omega (arith, in_selection R k true m.left_out)
 
     -- the requests up to this one cannot stand: they would come before the relaxation
     up_to_here_fails : ok (all k ++ (true ∷ none after)) ≡ false
@@ -78,7 +64,7 @@ module _ (ok : Question) (n : ℕ) (monotone : Monotone ok n) {C R : Selection} 
     above_stands : ok (all k ++ (false ∷ none after)) ≡ true
     above_stands =
         let l : length R ≡ n = r.relaxation.over in
-        let h : k < length R = left_out_in_range R k m.left_out in
+        let h : k < length R = in_selection R k true m.left_out in
         let shape : R ≡ all k ++ (false ∷ drop (suc k) R) =
         split_at R k true h ∙ ap₂ {C = Selection} (λ A b. A ++ (b ∷ drop (suc k) R)) m.above m.left_out in
         let e : length (drop (suc k) R) ≡ after = length-drop (suc k) R ∙ ap (λ i. i - suc k) l in
@@ -102,7 +88,7 @@ module _ (ok : Question) (n : ℕ) (monotone : Monotone ok n) {C R : Selection} 
         go false e =
             let l : length C ≡ n = c.conflict.over in
             let h : k < n = in_order in
-            let left_out : get_or C k true ≡ false = any_default C k true false (omega arith) ∙ e in
+            let left_out : get_or C k true ≡ false = get_or_default C k true false (omega arith) ∙ e in
             let within : C ⊆ all k ++ (false ∷ none after) = rw none_below at (within_without C k left_out) in
             absurd (true≢false (sym (monotone C _ (sym (subset-length within) ∙ l) within above_stands) ∙ c.conflict.fails))
 

@@ -1,11 +1,6 @@
 -- The two orders of document 004 (Definitions 3 and 6): two selections that are not equal differ first, and last, at some request.
 -- So a preferred relaxation is unique and maximal, and a preferred conflict is unique and minimal (the remarks after Definitions 5 and 8).
-use mathlib.Core.Path.{◌≡◌, refl, sym, ap, ◌∙◌}
-use mathlib.Core.Bool.{Bool, true, false}
-use mathlib.Core.List.{[], ◌∷◌}
-use Prim.Native.Nat.{ℕ, zero, suc}
-use native.Mathlib.Omega.{arith}
-use lib.ListN.{length}
+use Rattle.std.proofs.Common.{◌≡◌, refl, sym, ap, ◌∙◌, Bool, true, false, [], ◌∷◌, ℕ, zero, suc, arith, length}
 use Rattle.preference.specs.Selection.{Selection, ◌⊆◌, ends, same, more}
 use Rattle.preference.specs.Question.{Question}
 use Rattle.preference.specs.Preference.{LexBefore, AntilexBefore, PreferredRelaxation, PreferredConflict, Maximal, Minimal}

@@ -1,42 +1,29 @@
 -- One by one finds the preferred conflict and the preferred relaxation (document 004, the constructive definitions before Proposition 4).
-use mathlib.Core.Path.{◌≡◌, refl, sym, ap, ◌∙◌}
-use mathlib.Core.Bool.{Bool, true, false, true≢false}
-use mathlib.Core.List.{[], ◌∷◌, ◌++◌, append_assoc, append-nil}
-use Prim.Native.Nat.{ℕ, zero, suc, ◌+◌, ◌-◌, ◌<◌}
-use native.Mathlib.Omega.{arith}
-use native.Mathlib.Nat.{suc-sub-suc}
-use lib.ListN.{length, take, drop, get_or}
-use lib.Seq.{drop-drop, get_or-drop}
-use lib.Dec.{ltb}
-use borrow.Author.Tests.{ltb-true, ltb-false}
+use Rattle.std.proofs.Common.{◌≡◌, refl, sym, ap, ◌∙◌, Bool, true, false, true≢false, [], ◌∷◌, ◌++◌, append_assoc, append-nil, ℕ, zero}
+use Rattle.std.proofs.Common.{suc, ◌+◌, ◌-◌, ◌<◌, arith, length, take, drop, get_or, drop-drop, get_or-drop, ltb, ltb-true, ltb-false}
+use Rattle.std.proofs.Math.Nat.{suc-sub-suc}
 use Rattle.preference.specs.Selection.{Selection, all, none, ◌⊆◌, same, more}
 use Rattle.preference.specs.Question.{Question, Monotone, Relaxation, Conflict}
 use Rattle.preference.specs.Preference.{LexBefore, AntilexBefore, PreferredRelaxation, PreferredConflict}
 use Rattle.preference.specs.OneByOne.{one_conflict, one_relax}
 use Rattle.preference.proofs.Lengths.{length_one_conflict}
-use Rattle.preference.proofs.Selections.{all_then_all, subset_refl, subset-length, none-subset}
+use Rattle.preference.proofs.Selections.{in_selection, all_then_all, subset_refl, subset-length, none-subset}
 
 -- a selection without the request at a place lies within: all the more important ones, not this one, and its own less important ones
 pub within_without : (Y : Selection) (k : ℕ) → get_or Y k true ≡ false → Y ⊆ all k ++ (false ∷ drop (suc k) Y)
 unfolding all
-within_without [] k e = absurd (true≢false e)
-within_without (true ∷ Y) zero e = absurd (true≢false e)
+within_without [] k e = cc
+within_without (true ∷ Y) zero e = cc
 within_without (false ∷ Y) zero e = same (subset_refl Y)
 within_without (true ∷ Y) (suc k) e = same (within_without Y k e)
 within_without (false ∷ Y) (suc k) e = more (within_without Y k e)
 
 -- within a selection that has the request at a place lie: its own more important ones, this one, and none of the less important ones
 within_with : (Y : Selection) (k : ℕ) → get_or Y k false ≡ true → take k Y ++ (true ∷ none (length Y - suc k)) ⊆ Y
-within_with [] k e = absurd (true≢false (sym e))
-within_with (false ∷ Y) zero e = absurd (true≢false (sym e))
+within_with [] k e = cc
+within_with (false ∷ Y) zero e = cc
 within_with (true ∷ Y) zero e = let m : suc (length Y) - 1 ≡ length Y = omega arith in rw m (same (none-subset Y))
 within_with (b ∷ Y) (suc k) e = rw suc-sub-suc (same (within_with Y k e))
-
--- a place that is chosen lies in the selection
-is_in_range : (X : Selection) (k : ℕ) → get_or X k false ≡ true → k < length X
-is_in_range [] k e = absurd (true≢false (sym e))
-is_in_range (b ∷ X) zero e = omega arith
-is_in_range (b ∷ X) (suc k) e = omega (arith, is_in_range X k e)
 
 module _ (ok : Question) where
   -- what was decided stays, at the end
@@ -98,7 +85,7 @@ module _ (ok : Question) where
       → (Q : Selection) × ((one_relax ok P n).set ≡ P ++ Q) × (length Q ≡ n)
       × ((k : ℕ) → get_or Q k true ≡ false → ok (P ++ (take k Q ++ (true ∷ none (n - suc k)))) ≡ false)
   unfolding one_relax
-  relax_tail P zero = ([], sym (append-nil P), refl, λ k e. absurd (true≢false e))
+  relax_tail P zero = ([], sym (append-nil P), refl, λ k e. cc)
   relax_tail P (suc n) =
       let keep : Bool = ok (P ++ (true ∷ none n)) in
       let (Q, e, l, g) = relax_tail (P ++ (keep ∷ [])) n in
@@ -133,7 +120,7 @@ module _ (ok : Question) (n : ℕ) (monotone : Monotone ok n) where
       none_before : (Y : Selection) → Conflict ok n Y → AntilexBefore Y R → ⊥
       none_before Y c l =
           let k : ℕ = l.place in
-          let small : k < n = omega (arith, is_in_range R k l.chosen, over) in
+          let small : k < n = omega (arith, in_selection R k false l.chosen, over) in
           let r : Y ⊆ all k ++ (false ∷ drop (suc k) Y) = within_without Y k l.left_out in
           let stands : ok (all k ++ (false ∷ drop (suc k) Y)) ≡ true = rw l.below (kept_for_a_reason ok n [] k small l.chosen) in
           true≢false (sym (monotone Y _ (sym (subset-length r) ∙ c.over) r stands) ∙ c.fails)

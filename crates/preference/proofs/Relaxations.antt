@@ -1,10 +1,5 @@
 -- The theorems about a relaxation, over the whole calls: each name reads as its statement.
-use mathlib.Core.Path.{◌≡◌, sym, ◌∙◌}
-use mathlib.Core.Bool.{true, false, true≢false}
-use mathlib.Core.List.{[]}
-use Prim.Native.Nat.{ℕ, ◌+◌, ◌*◌, ◌^◌, ◌≤◌}
-use native.Mathlib.Omega.{arith}
-use lib.ListN.{length, get_or}
+use Rattle.std.proofs.Common.{◌≡◌, sym, ◌∙◌, true, false, true≢false, [], ℕ, ◌+◌, ◌*◌, ◌^◌, ◌≤◌, arith, length, get_or}
 use Rattle.preference.specs.Selection.{Selection, all, none, dropped}
 use Rattle.preference.specs.Question.{Question, Monotone, Agree, Relaxation}
 use Rattle.preference.specs.Preference.{PreferredRelaxation}
@@ -42,7 +37,7 @@ module _ (ok : Question) (n : ℕ) where
     pub one_by_one_relaxation_is_preferred : ok (none n) ≡ true → PreferredRelaxation ok n (relaxation_one_by_one ok n).set
     one_by_one_relaxation_is_preferred =
         by_start ok n (all n) (one_relax ok [] n) (λ a. ok (none n) ≡ true → PreferredRelaxation ok n a.set) (λ h f. all_requests_are_preferred h)
-        (λ h z g f. absurd (true≢false (sym f ∙ g))) (λ h p g f. absurd (true≢false (sym f ∙ g)))
+        (λ h z g f. cc) (λ h p g f. cc)
         (λ h p g f. one_by_one_finds_the_preferred_relaxation ok n monotone g)
 
     -- halving gives the same status and the same relaxation for every way of cutting

@@ -1,13 +1,6 @@
 -- Halving finds the set that one by one finds, whatever the cut (document 004, Proposition 6 and Theorem 1).
-use mathlib.Core.Path.{◌≡◌, refl, sym, ap, ◌∙◌}
-use mathlib.Core.Bool.{Bool, true, false, not, true≢false}
-use mathlib.Core.List.{[], ◌∷◌, ◌++◌, append_assoc, append-nil}
-use Prim.Native.Nat.{ℕ, zero, suc, ◌+◌}
-use native.Mathlib.Omega.{arith}
-use native.Mathlib.Nat.{add-zero, zero-add, add-suc, suc-add, add_assoc}
-use native.Mathlib.Numerals.{add-one}
-use lib.Dec.{ltb}
-use borrow.Author.Tests.{ltb-false}
+use Rattle.std.proofs.Common.{◌≡◌, refl, sym, ap, ◌∙◌, Bool, true, false, not, true≢false, [], ◌∷◌, ◌++◌, append_assoc, append-nil}
+use Rattle.std.proofs.Common.{ℕ, zero, suc, ◌+◌, arith, add-zero, zero-add, add-suc, suc-add, add_assoc, add-one, ltb, ltb-false}
 use Rattle.preference.specs.Selection.{Selection, all, none, ◌⊆◌, same}
 use Rattle.preference.specs.Question.{Question}
 use Rattle.preference.specs.Part.{Part, entered}
@@ -71,7 +64,7 @@ module _ (ok : Question) (monotone : (X Y : Selection) → X ⊆ Y → ok Y ≡ 
   same_conflict (node c1 c2) before ask S k =
       let d2 : Part = halve_conflict ok c2 (before + size c1) true S in
       enter_conflict_lem (size c1 + size c2) before ask _ S _ refl k
-      (λ g. rw (← add_assoc) (same_conflict c2 (before + size c1) true S (λ e. absurd (true≢false e))
+      (λ g. rw (← add_assoc) (same_conflict c2 (before + size c1) true S (λ e. cc)
       ∙ same_conflict c1 before (ltb 0 d2.found) d2.set (ground_of_first c1 c2 before S g)))
 
   -- a part that stands whole: one by one keeps all of it
@@ -112,7 +105,7 @@ module _ (ok : Question) (monotone : (X Y : Selection) → X ⊆ Y → ok Y ≡ 
   same_relax (node c1 c2) P after ask k =
       let k1 : Part = halve_relax ok c1 P (size c2 + after) true in
       enter_relax_lem (size c1 + size c2) P after ask _ _ refl k
-      (λ g. rw add_assoc (same_relax c1 P (size c2 + after) true (λ e. absurd (true≢false e))
+      (λ g. rw add_assoc (same_relax c1 P (size c2 + after) true (λ e. cc)
       ∙ same_relax c2 k1.set after (ltb 0 k1.found) (rest_fails c1 c2 P after g)))
 
   pub halving_finds_the_one_by_one_conflict : (t : Tree) → ok (none (size t)) ≡ true

@@ -1,10 +1,6 @@
 -- Laws of selections: all and none of the requests, subsets, and how many are kept and dropped.
-use mathlib.Core.Path.{◌≡◌, refl, sym, ap}
-use mathlib.Core.Bool.{Bool, true, false}
-use mathlib.Core.List.{List, [], ◌∷◌, ◌++◌}
-use Prim.Native.Nat.{ℕ, zero, suc, ◌+◌}
-use native.Mathlib.Omega.{arith}
-use lib.ListN.{length, get_or, replicate, length-replicate, replicate-append-replicate}
+use Rattle.std.proofs.Common.{◌≡◌, refl, sym, ap, Bool, true, false, not, List, [], ◌∷◌, ◌++◌, ℕ, zero, suc, ◌+◌, ◌<◌, arith, length, get_or, replicate}
+use Rattle.std.proofs.Math.ListN.{length-replicate, replicate-append-replicate}
 use Rattle.preference.specs.Selection.{Selection, all, none, kept, dropped, ◌⊆◌, ends, same, more}
 use Rattle.preference.specs.Named.{named}
 
@@ -90,18 +86,27 @@ unfolding all dropped
 dropped-all zero = refl
 dropped-all (suc n) = dropped-all n
 
+-- so many of one value have it at every place, and past the end too where it is the default
+one_value : (b : Bool) (n k : ℕ) → get_or (replicate n b) k b ≡ b
+one_value b zero k = refl
+one_value b (suc n) zero = refl
+one_value b (suc n) (suc k) = one_value b n k
+
 -- none has no request at any place, and all leave none out
 pub get_or-none : (n k : ℕ) → get_or (none n) k false ≡ false
 unfolding none
-get_or-none zero k = refl
-get_or-none (suc n) zero = refl
-get_or-none (suc n) (suc k) = get_or-none n k
+get_or-none n k = one_value false n k
 
 pub get_or-all : (n k : ℕ) → get_or (all n) k true ≡ true
 unfolding all
-get_or-all zero k = refl
-get_or-all (suc n) zero = refl
-get_or-all (suc n) (suc k) = get_or-all n k
+get_or-all n k = one_value true n k
+
+-- a place where a selection has another value than the one for places past its end lies in it
+pub in_selection : (X : Selection) (k : ℕ) (past : Bool) → get_or X k past ≡ not past → k < length X
+in_selection [] k true e = cc
+in_selection [] k false e = cc
+in_selection (b ∷ X) zero past e = omega arith
+in_selection (b ∷ X) (suc k) past e = omega (arith, in_selection X k past e)
 
 -- a selection names as many requests as it keeps
 pub length_named : (order : List ℕ) (X : Selection) → length X ≡ length order → length (named order X) ≡ kept X

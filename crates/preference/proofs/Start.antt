@@ -1,11 +1,6 @@
 -- The shared start of both methods: one law for each of its ways out, and what a status says.
-use mathlib.Core.Path.{◌≡◌, refl, sym, ap, ◌∙◌}
-use mathlib.Core.Bool.{Bool, true, false, true≢false}
-use mathlib.Core.Logic.{◌↔◌}
-use Prim.Native.Nat.{ℕ, zero, suc, ◌+◌, ◌<◌}
-use native.Mathlib.Omega.{arith}
-use lib.Dec.{eqb}
-use borrow.Author.Tests.{eq-eqb, ne_eqb, eqb-true, eqb-false}
+use Rattle.std.proofs.Common.{◌≡◌, refl, sym, ap, ◌∙◌, Bool, true, false, true≢false, ◌↔◌, ℕ, zero, suc, ◌+◌, ◌<◌, arith, eqb, eq-eqb, ne_eqb, eqb-true}
+use borrow.Author.Tests.{eqb-false}
 use Rattle.preference.specs.Selection.{Selection, all, none}
 use Rattle.preference.specs.Question.{Question, Monotone}
 use Rattle.preference.specs.Part.{Part}
@@ -17,10 +12,6 @@ nothing_to_choose : (n : ℕ) → n ≡ 0 → all n ≡ none n
 unfolding all none
 nothing_to_choose zero e = refl
 nothing_to_choose (suc n) e = absurd (omega arith)
-
-positive : (n : ℕ) → (n ≡ 0 → ⊥) → 0 < n
-positive zero f = absurd (f refl)
-positive (suc n) f = omega arith
 
 module _ (ok : Question) (n : ℕ) (whole : Selection) (worked : Part) where
   -- all can stand: one question
@@ -59,10 +50,10 @@ module _ (ok : Question) (n : ℕ) (whole : Selection) (worked : Part) where
           let m : n ≡ 0 = eqb-true n 0 f in
           rw (start_empty e m) (empty e m (rw (nothing_to_choose n m) at e))
       go false false false e f g =
-          let p : 0 < n = positive n (eqb-false n 0 f) in
+          let p : 0 < n = omega (arith, eqb-false n 0 f) in
           rw (start_host e p g) (host e p g)
       go false false true e f g =
-          let p : 0 < n = positive n (eqb-false n 0 f) in
+          let p : 0 < n = omega (arith, eqb-false n 0 f) in
           rw (start_worked e p g) (works e p g)
 
   -- status 0 exactly when all can stand
@@ -78,8 +69,7 @@ module _ (ok : Question) (n : ℕ) (whole : Selection) (worked : Part) where
   status_1 = (
     by_start (λ a. a.status ≡ 1 → (ok (all n) ≡ false) × (ok (none n) ≡ true)) (λ h e. absurd (omega arith)) (λ h z g e. absurd (omega arith))
         (λ h p g e. absurd (omega arith)) (λ h p g e. (h, g)),
-    λ w. by_start (λ a. a.status ≡ 1) (λ h. absurd (true≢false (sym h ∙ w.0))) (λ h z g. absurd (true≢false (sym w.1 ∙ g)))
-        (λ h p g. absurd (true≢false (sym w.1 ∙ g))) (λ h p g. refl),
+    λ w. by_start (λ a. a.status ≡ 1) (λ h. cc) (λ h z g. cc) (λ h p g. cc) (λ h p g. refl),
   )
 
   -- status 2 exactly when the host alone cannot stand
@@ -88,7 +78,7 @@ module _ (ok : Question) (n : ℕ) (whole : Selection) (worked : Part) where
     by_start (λ a. a.status ≡ 2 → ok (none n) ≡ false) (λ h e. absurd (omega arith)) (λ h z g e. g) (λ h p g e. g) (λ h p g e. absurd (omega arith)),
     λ f. by_start (λ a. a.status ≡ 2)
         (λ h. absurd (true≢false (sym (monotone (none n) (all n) (length-all n) (none_subset_all n) h) ∙ f))) (λ h z g. refl) (λ h p g. refl)
-        (λ h p g. absurd (true≢false (sym g ∙ f))),
+        (λ h p g. cc),
   )
 
 -- a method that finds the same set where it works gives the same answer

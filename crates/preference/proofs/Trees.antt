@@ -1,11 +1,7 @@
 -- Laws of the trees that a rule cuts: how a part is cut, how many requests it has, and how deep the middle cut goes.
-use mathlib.Core.Path.{◌≡◌, refl, sym, ap₂, ◌∙◌}
-use mathlib.Core.Bool.{Bool, true, false}
-use Prim.Native.Nat.{ℕ, zero, suc, ◌-◌, ◌/◌, ◌^◌, ◌≤◌}
-use native.Mathlib.Omega.{arith}
-use native.Mathlib.Nat.{pow-succ'}
-use lib.Dec.{leb}
-use borrow.Author.Tests.{le-leb, lt-leb, leb-true, leb-false}
+use Rattle.std.proofs.Common.{◌≡◌, refl, sym, ap₂, ◌∙◌, Bool, true, false, ℕ, zero, suc, ◌-◌, ◌/◌, ◌^◌, ◌≤◌, arith, leb, le-leb, leb-true, leb-false}
+use Rattle.std.proofs.Math.Nat.{pow-succ'}
+use borrow.Author.Tests.{lt-leb}
 use Rattle.preference.specs.Cut.{leaf, node, size, Deep, Cuts, tree_of, TreeFor, tree_by, half, middle}
 
 -- a part of one, and of none, is not cut

@@ -1,12 +1,7 @@
 -- The definitions of the methods, one law for each way out of a function that carries them out: over plain numbers and lists, at any n.
 -- A part of n requests is `halve_conflict ok (tree_by cut n) before ask S`; document 01's is the one with the cut `half`, and no part is empty.
-use mathlib.Core.Path.{◌≡◌, refl, sym, ◌∙◌}
-use mathlib.Core.Bool.{Bool, true, false, not, cond, true≢false}
-use mathlib.Core.List.{[], ◌∷◌, ◌++◌}
-use Prim.Native.Nat.{ℕ, zero, suc, ◌+◌, ◌-◌, ◌≤◌, ◌<◌}
-use native.Mathlib.Omega.{arith}
-use native.Mathlib.Nat.{add-zero, zero-add, add_assoc}
-use lib.Dec.{ltb}
+use Rattle.std.proofs.Common.{◌≡◌, refl, ◌∙◌, Bool, true, false, not, cond, [], ◌∷◌, ◌++◌}
+use Rattle.std.proofs.Common.{ℕ, zero, suc, ◌+◌, ◌-◌, ◌≤◌, ◌<◌, arith, add-zero, zero-add, add_assoc, ltb}
 use Rattle.preference.specs.Selection.{Selection, all, none}
 use Rattle.preference.specs.Question.{Question}
 use Rattle.preference.specs.Part.{Part, together, entered}
@@ -31,7 +26,7 @@ worked : (ask matters : Bool) (settled : Selection) (w : Part) → (ask ≡ true
 unfolding entered
 worked false matters settled w h = rw zero-add
 worked true true settled w h = let e : 1 + w.asked ≡ suc w.asked = omega arith in rw e
-worked true false settled w h = absurd (true≢false (sym (h refl)))
+worked true false settled w h = cc (h refl)
 
 module _ (ok : Question) where
   -- One by one, conflict: no request is left to try,

@@ -1,10 +1,10 @@
 // Preferred conflicts and relaxations over any yes/no question. The theory is in specs/ and proofs/; what runs here is d, for the bound 2 + 2kd.
 #![tactic(auto)]
 
-ghost use Rattle.std.specs.Prelude.{◌<◌};
 ghost use Rattle.preference.specs.Depth.{Depth};
 
 // d for each number of requests from 0 to 64.
+// Kept: document 01 asks for d set out as a list of 65 entries; the logarithm alone would give the same.
 const DEPTHS: [usize; 65] = [
     // 0 and 1
     0, 0,
@@ -22,23 +22,13 @@ const DEPTHS: [usize; 65] = [
     6, 6, 6, 6, 6, 6, 6, 6, 6, 6, 6, 6, 6, 6, 6, 6, 6, 6, 6, 6, 6, 6, 6, 6, 6, 6, 6, 6, 6, 6, 6, 6,
 ];
 
-// d for at most 64 requests, as the list has it.
-fn listed(requests: usize) -> usize
-    requires { requests < 65 }
-    ensures { Depth requests result }
-{
-    DEPTHS[requests]
-}
-
-// The least number d with 2^d at least `requests`: from the list up to 64, and one more for each halving above that.
+// The least number d with 2^d at least `requests`: from the list up to 64, and above that from the logarithm of the number before.
 pub fn depth(requests: usize) -> usize
     ensures { Depth requests result }
 {
-    let mut left = requests;
-    let mut cuts: usize = 0;
-    while 64 < left {
-        left = left - left / 2;
-        cuts = cuts + 1;
+    if requests < DEPTHS.len() {
+        return DEPTHS[requests];
     }
-    cuts + listed(left)
+    // Kept: the cast of a logarithm, at most 63, is proved to lose nothing; there is no `usize::from` a u32, and `try_from` would need an `unwrap`.
+    (requests - 1).ilog2() as usize + 1
 }

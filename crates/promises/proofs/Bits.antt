@@ -1,14 +1,8 @@
 -- The bits of a lent selection: request r stands at bit r-1, and every choice of n requests is some number's bits.
-use Prim.Native.Nat.{ℕ, zero, suc, ◌+◌, ◌*◌, ◌-◌, ◌%◌, ◌/◌, ◌^◌, ◌≤◌, ◌<◌}
-use mathlib.Core.Path.{◌≡◌, refl, sym, ap, ◌∙◌}
-use mathlib.Core.Logic.{◌↔◌}
-use mathlib.Core.Bool.{Bool, true, false, cond, not}
-use mathlib.Core.List.{List, [], ◌∷◌}
-use native.Mathlib.Omega.{arith}
-use native.Mathlib.Nat.{pow-succ', pow-suc, div-div-eq-div-mul, div-eq_of_lt, div-lt_iff_lt-mul}
-use lib.Dec.{eqb}
-use lib.ListN.{length, get_or}
-use borrow.Author.Tests.{eq-eqb, eqb-true, not-false}
+use Rattle.std.proofs.Common.{ℕ, zero, suc, ◌+◌, ◌*◌, ◌-◌, ◌%◌, ◌/◌, ◌^◌, ◌≤◌, ◌<◌, ◌≡◌, refl, sym, ap, ◌∙◌, ◌↔◌, Bool, true, false}
+use Rattle.std.proofs.Common.{cond, not, List, [], ◌∷◌, arith, pow_pos, div-lt_iff_lt-mul, eqb, length, get_or, eq-eqb, eqb-true}
+use Rattle.std.proofs.Math.Nat.{pow-succ', div-div-eq-div-mul, div-eq_of_lt}
+use borrow.Author.Tests.{not-false}
 use Rattle.promises.specs.Selecting.{bits, above, names_above, selection_of}
 
 -- there are n of them
@@ -39,11 +33,6 @@ unfolding above
 above_is zero number = omega arith
 above_is (suc n) number = above_is n (number / 2) ∙ halved number n
 
--- two to any power is some number
-pub power_is_positive : (n : ℕ) → 0 < 2 ^ n
-power_is_positive zero = omega arith
-power_is_positive (suc n) = let e = pow-suc 2 n in omega (arith, power_is_positive n)
-
 -- a number names no request above n exactly where it is below 2 ^ n
 pub names_none_above : (n number : ℕ) → names_above n number ≡ false ↔ number < 2 ^ n
 unfolding names_above
@@ -51,7 +40,7 @@ names_none_above n number = (
   λ e.
       let z : number / 2 ^ n ≡ 0 = sym (above_is n number) ∙ eqb-true (above n number) 0 (not-false (eqb (above n number) 0) e) in
       let h : number / 2 ^ n < 1 = omega arith in
-      let g : number < 1 * 2 ^ n = (div-lt_iff_lt-mul (power_is_positive n)).0 h in
+      let g : number < 1 * 2 ^ n = (div-lt_iff_lt-mul (pow_pos n)).0 h in
       omega arith,
   λ h. ap not (eq-eqb (above n number) 0 (above_is n number ∙ div-eq_of_lt h)),
 )

@@ -1,12 +1,7 @@
 -- Demand 2 by the reports: what halving and one by one write about a table differs in the four bytes of the count alone.
-use Prim.Native.Nat.{ℕ, ◌+◌, ◌*◌, ◌≤◌}
-use mathlib.Core.Path.{◌≡◌, refl, sym, ap, ◌∙◌}
-use mathlib.Core.Bool.{true}
-use mathlib.Core.List.{List, ◌++◌}
-use lib.ListN.{length, take, drop}
-use lib.Seq.{length-take-le, take-append-add, drop-append-add}
+use Rattle.std.proofs.Common.{ℕ, ◌+◌, ◌*◌, ◌≤◌, ◌≡◌, refl, sym, ap, ◌∙◌, true, List, ◌++◌, length, take, drop, length-take-le, Ok}
+use Rattle.std.proofs.Math.Seq.{take-append-add, drop-append-add}
 use Rattle.table.specs.declared.record.Frame.{Frame}
-use Rattle.table.specs.declared.reading.Reading.TheVariants.{Accepted}
 use Rattle.table.specs.Reading.{reading}
 use Rattle.table.specs.Kept.{order_of}
 use Rattle.preference.specs.Selection.{Selection}
@@ -77,7 +72,7 @@ module _ (method other : Method) (t : List ℕ) (f : Frame) (buffer : List ℕ) 
       sets = ap (λ (x : Answer). x.set) one_is ∙ same.set ∙ sym (ap (λ (x : Answer). x.set) two_is)
 
 module _
-    (t : List ℕ) (f : Frame) (e : reading t ≡ Accepted f) (buffer : List ℕ) (start : ℕ) (room : room_for f.requests buffer start ≡ true)
+    (t : List ℕ) (f : Frame) (e : reading t ≡ Ok f) (buffer : List ℕ) (start : ℕ) (room : room_for f.requests buffer start ≡ true)
     (n p : ℕ) (a : List ℕ) (n' p' : ℕ) (a' : List ℕ) where
   -- the two conflict calls write the same but the count
   pub both_conflict_reports_tell_one_set :

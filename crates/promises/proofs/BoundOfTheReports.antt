@@ -1,13 +1,6 @@
 -- The bound by the reports: what stands in the bytes of a report is the method's answer, and so its count is bounded.
-use Prim.Native.Nat.{ℕ, ◌+◌, ◌-◌, ◌≤◌}
-use mathlib.Core.Path.{◌≡◌, sym, ap, ◌∙◌}
-use mathlib.Core.Bool.{true}
-use mathlib.Core.List.{List}
-use native.Mathlib.Omega.{arith}
-use lib.ListN.{length, take, drop}
-use lib.Seq.{length-take-le, drop_at}
+use Rattle.std.proofs.Common.{ℕ, ◌+◌, ◌-◌, ◌≤◌, ◌≡◌, sym, ap, ◌∙◌, true, List, arith, length, take, drop, length-take-le, drop_at, Ok}
 use Rattle.table.specs.declared.record.Frame.{Frame}
-use Rattle.table.specs.declared.reading.Reading.TheVariants.{Accepted}
 use Rattle.table.specs.Reading.{reading}
 use Rattle.table.specs.Kept.{order_of}
 use Rattle.table.proofs.Accepted.{accepted_keeps}
@@ -46,7 +39,7 @@ pub record AnswerRead (after : List ℕ) (start : ℕ) (answer : Answer) : Type 
   pub count : count_at after start ≡ answer.asked
   pub named_many : named_at after start ≡ kept answer.set
 
-module _ (t : List ℕ) (f : Frame) (e : reading t ≡ Accepted f) (buffer : List ℕ) (start : ℕ) (room : room_for f.requests buffer start ≡ true) where
+module _ (t : List ℕ) (f : Frame) (e : reading t ≡ Ok f) (buffer : List ℕ) (start : ℕ) (room : room_for f.requests buffer start ≡ true) where
   module _ (method : Method) (n p : ℕ) (a : List ℕ) where
     -- the method's own answer
     abbrev answer : Answer

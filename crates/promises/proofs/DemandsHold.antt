@@ -1,10 +1,6 @@
 -- Demands 1 to 3 and the bound hold of every table (that every call is answered, and in one way, stands in OnlyOne).
-use Prim.Native.Nat.{ℕ}
-use mathlib.Core.Path.{◌≡◌, refl, sym, ap, ◌∙◌}
-use mathlib.Core.Bool.{Bool, true, false}
-use mathlib.Core.List.{List}
+use Rattle.std.proofs.Common.{ℕ, ◌≡◌, refl, sym, ap, ◌∙◌, Bool, true, false, List, Ok}
 use Rattle.table.specs.declared.record.Frame.{Frame}
-use Rattle.table.specs.declared.reading.Reading.TheVariants.{Accepted}
 use Rattle.table.specs.Reading.{reading}
 use Rattle.table.specs.Kept.{Kept, order_of}
 use Rattle.table.proofs.Accepted.{accepted_keeps}
@@ -130,7 +126,7 @@ agreeing_questions_get_one_answer ConflictOneByOne ok other n agree = one_by_one
 agreeing_questions_get_one_answer RelaxationByHalving ok other n agree = halving_relaxation_asks_nothing_else ok n other agree half half_cuts
 agreeing_questions_get_one_answer RelaxationOneByOne ok other n agree = one_by_one_relaxation_asks_nothing_else ok n other agree
 
-module _ (t u : List ℕ) (f g : Frame) (e : reading t ≡ Accepted f) (e' : reading u ≡ Accepted g) (alike : StandAlike t f u g) (method : Method) where
+module _ (t u : List ℕ) (f g : Frame) (e : reading t ≡ Ok f) (e' : reading u ≡ Ok g) (alike : StandAlike t f u g) (method : Method) where
   -- the methods' answers about two tables that stand alike are one
   pub answers_are_alike : answer_by method (table_question t f) f.requests ≡ answer_by method (table_question u g) g.requests
   answers_are_alike =

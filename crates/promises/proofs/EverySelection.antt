@@ -1,11 +1,6 @@
 -- Every lent selection is one of the selections that the methods' conflicts and relaxations are among: none is left out.
-use Prim.Native.Nat.{ℕ, suc, ◌+◌, ◌≤◌, ◌<◌}
-use mathlib.Core.Path.{◌≡◌, refl, sym, ap, ◌∙◌}
-use mathlib.Core.Bool.{Bool, true, false, ◌&&◌, ◌||◌, and-false}
-use mathlib.Core.List.{List, [], ◌∷◌}
-use lib.Dec.{eqb}
-use lib.ListN.{length}
-use borrow.Author.Tests.{eqb-true}
+use Rattle.std.proofs.Common.{ℕ, suc, ◌+◌, ◌≤◌, ◌<◌, ◌≡◌, refl, sym, ap, ◌∙◌, Bool, true, false, ◌&&◌, ◌||◌, List, [], ◌∷◌, eqb, length, eqb-true}
+use Rattle.std.proofs.Math.Bool.{and-false}
 use Rattle.table.specs.declared.record.Frame.{Frame}
 use Rattle.table.specs.Lists.{among}
 use Rattle.table.specs.Kept.{Kept, order_of}
@@ -31,7 +26,7 @@ length_places (request ∷ order) chosen = ap suc (length_places order chosen)
 
 -- they name the requests of the order that are chosen
 pub places_name : (role : ℕ) (order : List ℕ) (chosen : ℕ → Bool) → among role (named order (places_of order chosen)) ≡ (among role order && chosen role)
-unfolding places_of named among
+unfolding places_of named
 places_name role [] chosen = refl
 places_name role (request ∷ order) chosen = by (chosen request) (eqb role request) refl refl (places_name role order chosen)
   where

@@ -1,9 +1,5 @@
 -- The question of a table is monotone: what stands with more requests stands with fewer.
-use Prim.Native.Nat.{ℕ}
-use mathlib.Core.Path.{◌≡◌, refl}
-use mathlib.Core.Bool.{Bool, true, false, ◌||◌}
-use mathlib.Core.List.{List, [], ◌∷◌}
-use lib.Dec.{eqb}
+use Rattle.std.proofs.Common.{ℕ, ◌≡◌, refl, Bool, true, false, ◌||◌, List, [], ◌∷◌, eqb}
 use Rattle.table.specs.declared.record.Frame.{Frame}
 use Rattle.table.specs.Lists.{among}
 use Rattle.table.specs.Kept.{rows_of}
@@ -25,7 +21,7 @@ or_later false before after h e = h e
 
 -- a request that is among the named of a selection is among those of a larger one
 pub named_in_more : (role : ℕ) (order : List ℕ) {X Y : Selection} → X ⊆ Y → among role (named order X) ≡ true → among role (named order Y) ≡ true
-unfolding named among
+unfolding named
 named_in_more role [] s e = e
 named_in_more role (request ∷ order) ends e = e
 named_in_more role (request ∷ order) (same {b = true} {X = X} {Y = Y} s) e =

@@ -1,14 +1,8 @@
 -- Demand 1: every call has an outcome that keeps its promise, and only one.
-use Prim.Native.Nat.{ℕ, zero, suc, ◌≤◌}
-use mathlib.Core.Path.{◌≡◌, refl, sym, subst, ◌∙◌}
-use mathlib.Core.Bool.{Bool, true, false, cond}
-use mathlib.Core.Logic.{◌↔◌}
-use mathlib.Core.List.{List}
-use native.Mathlib.Omega.{arith}
+use Rattle.std.proofs.Common.{ℕ, zero, suc, ◌≤◌, ◌≡◌, refl, sym, subst, ◌∙◌, Bool, true, false, cond, ◌↔◌, List, arith, Ok, Err}
 use Rattle.table.specs.declared.record.Frame.{Frame}
-use Rattle.table.specs.declared.reading.Reading.{Reading}
-use Rattle.table.specs.declared.reading.Reading.TheVariants.{Accepted, Refused}
-use Rattle.table.specs.Reading.{reading, number_of_reading, place_of_reading}
+use Rattle.table.specs.Refusals.{number_of}
+use Rattle.table.specs.Reading.{Reading, reading, number_of_reading, place_of_reading}
 use Rattle.table.specs.Body.{stretch_of, number_of_stretch, place_of_stretch, size_of_stretch}
 use Rattle.table.specs.Kept.{order_of}
 use Rattle.preference.specs.Answer.{Answer}
@@ -77,13 +71,13 @@ only_one_answer :
     (t : List ℕ) (selection n s p n' s' p' : ℕ) → CanStandCall t selection n s p → CanStandCall t selection n' s' p' → Told n s p n' s' p'
 only_one_answer t selection n s p n' s' p' one other = by (reading t) refl
   where
-    within : (f : Frame) → reading t ≡ Accepted f → (high : Bool) → names_above f.requests selection ≡ high → Told n s p n' s' p'
+    within : (f : Frame) → reading t ≡ Ok f → (high : Bool) → names_above f.requests selection ≡ high → Told n s p n' s' p'
     within f e true h = same_told (one.too_much f e h) (other.too_much f e h)
     within f e false h = same_stands (one.answered f e h) (other.answered f e h)
 
     by : (told : Reading) → reading t ≡ told → Told n s p n' s' p'
-    by (Accepted f) e = within f e (names_above f.requests selection) refl
-    by (Refused r) e = same_told (one.refused r e) (other.refused r e)
+    by (Ok f) e = within f e (names_above f.requests selection) refl
+    by (Err r) e = same_told (one.refused r e) (other.refused r e)
 
 -- and a report leaves one number, place and buffer
 only_one_report :
@@ -93,13 +87,13 @@ only_one_report :
     Left n p a n' p' a'
 only_one_report method t buffer start n p a n' p' a' one other = by (reading t) refl
   where
-    within : (f : Frame) → reading t ≡ Accepted f → (room : Bool) → room_for f.requests buffer start ≡ room → Left n p a n' p' a'
+    within : (f : Frame) → reading t ≡ Ok f → (room : Bool) → room_for f.requests buffer start ≡ room → Left n p a n' p' a'
     within f e true h = same_reported (one.reported f e h) (other.reported f e h)
     within f e false h = same_left (one.no_room f e h) (other.no_room f e h)
 
     by : (told : Reading) → reading t ≡ told → Left n p a n' p' a'
-    by (Accepted f) e = within f e (room_for f.requests buffer start) refl
-    by (Refused r) e = same_left (one.refused r e) (other.refused r e)
+    by (Ok f) e = within f e (room_for f.requests buffer start) refl
+    by (Err r) e = same_left (one.refused r e) (other.refused r e)
 
 -- each call has at most one outcome
 pub only_one_outcome : OnlyOneOutcome
@@ -121,14 +115,14 @@ some_answer : (t : List ℕ) (selection : ℕ) → (number : ℕ) × (stands : �
 some_answer t selection = by (reading t) refl
   where
     within :
-        (f : Frame) → reading t ≡ Accepted f → (high : Bool) → names_above f.requests selection ≡ high →
+        (f : Frame) → reading t ≡ Ok f → (high : Bool) → names_above f.requests selection ≡ high →
         (number : ℕ) × (stands : ℕ) × (place : ℕ) × CanStandCall t selection number stands place
     within f e true h = (names_too_much, 0, 0, can_stand_too_much t selection f e h)
     within f e false h = (0, cond (can_stand t f selection) 1 0, 0, can_stand_answered t selection f e h)
 
     by : (told : Reading) → reading t ≡ told → (number : ℕ) × (stands : ℕ) × (place : ℕ) × CanStandCall t selection number stands place
-    by (Accepted f) e = within f e (names_above f.requests selection) refl
-    by (Refused r) e = (r.number, 0, r.place, can_stand_refused t selection r e)
+    by (Ok f) e = within f e (names_above f.requests selection) refl
+    by (Err r) e = ((number_of r.fault), 0, r.place, can_stand_refused t selection r e)
 
 -- a report is given, or refused
 some_report :
@@ -137,7 +131,7 @@ some_report :
 some_report method t buffer start = by (reading t) refl
   where
     within :
-        (f : Frame) → reading t ≡ Accepted f → (room : Bool) → room_for f.requests buffer start ≡ room →
+        (f : Frame) → reading t ≡ Ok f → (room : Bool) → room_for f.requests buffer start ≡ room →
         (number : ℕ) × (place : ℕ) × (after : List ℕ) × ReportCall method t buffer start number place after
     within f e true h =
         let answer : Answer = answer_by method (table_question t f) f.requests in (
@@ -150,8 +144,8 @@ some_report method t buffer start = by (reading t) refl
     within f e false h = (no_room, 0, buffer, report_no_room method t buffer start f e h)
 
     by : (told : Reading) → reading t ≡ told → (number : ℕ) × (place : ℕ) × (after : List ℕ) × ReportCall method t buffer start number place after
-    by (Accepted f) e = within f e (room_for f.requests buffer start) refl
-    by (Refused r) e = (r.number, r.place, buffer, report_refused method t buffer start r e)
+    by (Ok f) e = within f e (room_for f.requests buffer start) refl
+    by (Err r) e = ((number_of r.fault), r.place, buffer, report_refused method t buffer start r e)
 
 -- and each has one
 pub every_call_is_answered : EveryCallIsAnswered

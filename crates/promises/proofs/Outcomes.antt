@@ -1,15 +1,9 @@
 -- One law for each way out of a public call: what it returns and leaves there keeps the call's promise.
-use Prim.Native.Nat.{ℕ, ◌≤◌}
-use mathlib.Core.Path.{◌≡◌, refl, subst}
-use mathlib.Core.Bool.{Bool, true, false, cond}
-use mathlib.Core.Logic.{◌↔◌}
-use mathlib.Core.List.{List}
-use native.Mathlib.Omega.{arith}
+use Rattle.std.proofs.Common.{ℕ, ◌≤◌, ◌≡◌, refl, subst, Bool, true, false, cond, ◌↔◌, List, arith, Ok, Err}
 use Rattle.table.specs.declared.record.Frame.{Frame}
 use Rattle.table.specs.declared.refusals.Refusal.{Refusal}
-use Rattle.table.specs.declared.reading.Reading.{Reading}
-use Rattle.table.specs.declared.reading.Reading.TheVariants.{Accepted, Refused}
-use Rattle.table.specs.Reading.{reading}
+use Rattle.table.specs.Refusals.{number_of}
+use Rattle.table.specs.Reading.{Reading, reading}
 use Rattle.table.specs.Kept.{rows_of}
 use Rattle.meaning.proofs.Standing.{stands_exactly}
 use Rattle.preference.specs.Answer.{Answer}
@@ -20,19 +14,19 @@ use Rattle.promises.specs.Calls.{names_too_much, no_room, Told, QuestionAnswered
 
 -- true is not false
 clash : {X : Type 0} {b : Bool} → b ≡ true → b ≡ false → X
-clash e g = let z : ◌≡◌ {A = ℕ} 0 1 = cc in absurd (omega arith)
+clash e g = cc
 
 module _ {told : Reading} where
   -- a table is not both accepted and refused
-  pub not_both : {X : Type 0} {f : Frame} {r : Refusal} → told ≡ Accepted f → told ≡ Refused r → X
-  not_both e g = let z : ◌≡◌ {A = ℕ} 0 1 = cc in absurd (omega arith)
+  pub not_both : {X : Type 0} {f : Frame} {r : Refusal} → told ≡ Ok f → told ≡ Err r → X
+  not_both e g = cc
 
   -- it is refused in one way
-  pub one_refusal : {r s : Refusal} → told ≡ Refused r → told ≡ Refused s → r ≡ s
+  pub one_refusal : {r s : Refusal} → told ≡ Err r → told ≡ Err s → r ≡ s
   one_refusal e g = cc
 
   -- with one frame
-  pub one_frame : {f g : Frame} → told ≡ Accepted f → told ≡ Accepted g → f ≡ g
+  pub one_frame : {f g : Frame} → told ≡ Ok f → told ≡ Ok g → f ≡ g
   one_frame e g = cc
 
 -- a selection stands exactly where some setting meets the host rows and those of the selected requests
@@ -51,17 +45,17 @@ one_of false e = absurd (omega arith)
 
 module _ (t : List ℕ) (selection : ℕ) where
   -- the question about a table that is refused
-  pub can_stand_refused : (r : Refusal) → reading t ≡ Refused r → CanStandCall t selection r.number 0 r.place
+  pub can_stand_refused : (r : Refusal) → reading t ≡ Err r → CanStandCall t selection (number_of r.fault) 0 r.place
   can_stand_refused r e =
       record {
         refused =
-            λ s g. subst (λ (x : Refusal). Told r.number 0 r.place x.number 0 x.place) (one_refusal e g)
+            λ s g. subst (λ (x : Refusal). Told (number_of r.fault) 0 r.place (number_of x.fault) 0 x.place) (one_refusal e g)
             (record { number_is = refl; stands_is = refl; place_is = refl });
         too_much = λ f g. not_both g e;
         answered = λ f g. not_both g e;
       }
 
-  module _ (f : Frame) (e : reading t ≡ Accepted f) where
+  module _ (f : Frame) (e : reading t ≡ Ok f) where
     -- a selection that names a request above N
     pub can_stand_too_much : names_above f.requests selection ≡ true → CanStandCall t selection names_too_much 0 0
     can_stand_too_much high =
@@ -90,17 +84,17 @@ module _ (t : List ℕ) (selection : ℕ) where
 
 module _ (method : Method) (t buffer : List ℕ) (start : ℕ) where
   -- a report about a table that is refused
-  pub report_refused : (r : Refusal) → reading t ≡ Refused r → ReportCall method t buffer start r.number r.place buffer
+  pub report_refused : (r : Refusal) → reading t ≡ Err r → ReportCall method t buffer start (number_of r.fault) r.place buffer
   report_refused r e =
       record {
         refused =
-            λ s g. subst (λ (x : Refusal). Left r.number r.place buffer x.number x.place buffer) (one_refusal e g)
+            λ s g. subst (λ (x : Refusal). Left (number_of r.fault) r.place buffer (number_of x.fault) x.place buffer) (one_refusal e g)
             (record { number_is = refl; place_is = refl; buffer_is = refl });
         no_room = λ f g. not_both g e;
         reported = λ f g. not_both g e;
       }
 
-  module _ (f : Frame) (e : reading t ≡ Accepted f) where
+  module _ (f : Frame) (e : reading t ≡ Ok f) where
     -- no room for it
     pub report_no_room : room_for f.requests buffer start ≡ false → ReportCall method t buffer start no_room 0 buffer
     report_no_room short =

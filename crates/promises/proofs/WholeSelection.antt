@@ -1,11 +1,7 @@
 -- All requests and none of them, as the public question is asked about them: the selections 2 ^ N - 1 and 0.
-use Prim.Native.Nat.{ℕ, zero, suc, ◌+◌, ◌-◌, ◌%◌, ◌/◌, ◌^◌, ◌≤◌, ◌<◌}
-use mathlib.Core.Path.{◌≡◌, refl, sym, ap, ◌∙◌}
-use mathlib.Core.Bool.{true, false}
-use mathlib.Core.List.{List, [], ◌∷◌}
-use native.Mathlib.Omega.{arith}
-use native.Mathlib.Nat.{pow-succ'}
-use lib.ListN.{length, get_or-replicate}
+use Rattle.std.proofs.Common.{ℕ, zero, suc, ◌+◌, ◌-◌, ◌%◌, ◌/◌, ◌^◌, ◌≤◌, ◌<◌, ◌≡◌, refl, sym, ap, ◌∙◌, true, false, List, [], ◌∷◌, arith, length, pow_pos}
+use Rattle.std.proofs.Math.Nat.{pow-succ'}
+use Rattle.std.proofs.Math.ListN.{get_or-replicate}
 use Rattle.table.specs.declared.record.Frame.{Frame}
 use Rattle.table.specs.Lists.{among}
 use Rattle.table.specs.Kept.{Kept, order_of}
@@ -15,7 +11,6 @@ use Rattle.preference.proofs.Selections.{get_or-none}
 use Rattle.explain.specs.Asking.{chosen_by}
 use Rattle.promises.specs.Selecting.{bits, selection_of, can_stand}
 use Rattle.promises.specs.Reports.{table_question}
-use Rattle.promises.proofs.Bits.{power_is_positive}
 use Rattle.promises.proofs.OrderCovers.{order_covers}
 use Rattle.table.proofs.RecordsStand.{length-words}
 use Rattle.promises.proofs.PublicQuestion.{asked_in_public}
@@ -26,7 +21,7 @@ unfolding bits all
 bits_of_all zero = refl
 bits_of_all (suc n) =
     let double = pow-succ' 2 n in
-    let some = power_is_positive n in
+    let some = pow_pos n in
     let low : (2 ^ suc n - 1) % 2 ≡ 1 = omega arith in
     let high : (2 ^ suc n - 1) / 2 ≡ 2 ^ n - 1 = omega arith in
     rw (low, high, bits_of_all n)
@@ -72,7 +67,7 @@ module _ (t : List ℕ) (f : Frame) (kept : Kept t f) where
 
   -- and the second the public one about the host alone
   pub host_alone_asked_in_public : table_question t f (none f.requests) ≡ can_stand t f 0
-  unfolding chosen_by among
+  unfolding chosen_by
   host_alone_asked_in_public = asked_in_public t f (order_of t f) (none f.requests) 0 kept names
     where
       names : (role : ℕ) → 0 < role → role ≤ f.requests → selection_of f.requests 0 role ≡ among role (named (order_of t f) (none f.requests))

@@ -1,9 +1,9 @@
 -- The promises of the public calls: for every input one number, and one value behind each reference that is lent.
 -- A call is refused with the table's own number and place, or by a test of its own, or it is answered; each way is a field.
-use Rattle.std.specs.Prelude.{ℕ, ◌≤◌, ◌≡◌, ◌↔◌, true, false, List, length}
+use Rattle.std.specs.Prelude.{ℕ, ◌≤◌, ◌≡◌, ◌↔◌, true, false, List, length, Ok, Err}
 use Rattle.table.specs.declared.record.Frame.{Frame}
 use Rattle.table.specs.declared.refusals.Refusal.{Refusal}
-use Rattle.table.specs.declared.reading.Reading.TheVariants.{Accepted, Refused}
+use Rattle.table.specs.Refusals.{number_of}
 use Rattle.table.specs.Reading.{reading, number_of_reading, place_of_reading}
 use Rattle.table.specs.Body.{stretch_of, number_of_stretch, place_of_stretch, size_of_stretch}
 use Rattle.preference.specs.Selection.{all, none}
@@ -50,9 +50,9 @@ pub record QuestionAnswered (t : List ℕ) (f : Frame) (selection number stands 
 
 -- `hainscope_can_stand`: the table's own refusal, 11, or the answer
 pub record CanStandCall (t : List ℕ) (selection number stands place : ℕ) : Type 0 where
-  pub refused : (r : Refusal) → reading t ≡ Refused r → Told number stands place r.number 0 r.place
-  pub too_much : (f : Frame) → reading t ≡ Accepted f → names_above f.requests selection ≡ true → Told number stands place names_too_much 0 0
-  pub answered : (f : Frame) → reading t ≡ Accepted f → names_above f.requests selection ≡ false → QuestionAnswered t f selection number stands place
+  pub refused : (r : Refusal) → reading t ≡ Err r → Told number stands place (number_of r.fault) 0 r.place
+  pub too_much : (f : Frame) → reading t ≡ Ok f → names_above f.requests selection ≡ true → Told number stands place names_too_much 0 0
+  pub answered : (f : Frame) → reading t ≡ Ok f → names_above f.requests selection ≡ false → QuestionAnswered t f selection number stands place
 
 -- the set of a conflict: the preferred one of Definition 7 where there is one to name (status 1), else none
 pub record ConflictSet (ok : Question) (n : ℕ) (answer : Answer) : Type 0 where
@@ -98,6 +98,6 @@ pub record Reported (method : Method) (t : List ℕ) (f : Frame) (buffer : List 
 -- `hainscope_conflict`, `hainscope_relaxation` and their one-by-one fellows: the table's own refusal, 12, or the report;
 -- a refused call leaves the buffer as it was
 pub record ReportCall (method : Method) (t buffer : List ℕ) (start number place : ℕ) (after : List ℕ) : Type 0 where
-  pub refused : (r : Refusal) → reading t ≡ Refused r → Left number place after r.number r.place buffer
-  pub no_room : (f : Frame) → reading t ≡ Accepted f → room_for f.requests buffer start ≡ false → Left number place after no_room 0 buffer
-  pub reported : (f : Frame) → reading t ≡ Accepted f → room_for f.requests buffer start ≡ true → Reported method t f buffer start number place after
+  pub refused : (r : Refusal) → reading t ≡ Err r → Left number place after (number_of r.fault) r.place buffer
+  pub no_room : (f : Frame) → reading t ≡ Ok f → room_for f.requests buffer start ≡ false → Left number place after no_room 0 buffer
+  pub reported : (f : Frame) → reading t ≡ Ok f → room_for f.requests buffer start ≡ true → Reported method t f buffer start number place after

@@ -1,7 +1,6 @@
 -- The three demands and the bound, each a statement over all tables; their proofs stand in proofs/.
-use Rattle.std.specs.Prelude.{ℕ, ◌+◌, ◌*◌, ◌-◌, ◌≤◌, ◌<◌, ◌^◌, ◌≡◌, ◌↔◌, true, false, List, length, get_or, take, drop}
+use Rattle.std.specs.Prelude.{ℕ, ◌+◌, ◌*◌, ◌-◌, ◌≤◌, ◌<◌, ◌^◌, ◌≡◌, ◌↔◌, true, false, List, length, get_or, take, drop, Ok}
 use Rattle.table.specs.declared.record.Frame.{Frame}
-use Rattle.table.specs.declared.reading.Reading.TheVariants.{Accepted}
 use Rattle.table.specs.Reading.{reading}
 use Rattle.table.specs.Kept.{Kept, order_of}
 use Rattle.table.specs.Model.{Model}
@@ -22,8 +21,8 @@ use Rattle.promises.specs.Calls.{ReadCall, BodyCall, CanStandCall, ReportCall, R
 -- Demand 1: a table is accepted exactly where it is well formed, which is where it stands for a model; so no reading keeps the demands by
 -- refusing tables.
 pub record TablesAreReadRight : Type 0 where
-  pub well_formed : (t : List ℕ) (f : Frame) → reading t ≡ Accepted f ↔ Kept t f
-  pub stands_for_a_model : (t : List ℕ) → IsBytes t → ((f : Frame) × (reading t ≡ Accepted f)) ↔ ((m : Model) × StandsFor t m)
+  pub well_formed : (t : List ℕ) (f : Frame) → reading t ≡ Ok f ↔ Kept t f
+  pub stands_for_a_model : (t : List ℕ) → IsBytes t → ((f : Frame) × (reading t ≡ Ok f)) ↔ ((m : Model) × StandsFor t m)
 
 -- Every call has an outcome that keeps its promise, and only one.
 pub record EveryCallIsAnswered : Type 0 where
@@ -74,7 +73,7 @@ pub record TheSetsAreRight (t : List ℕ) (f : Frame) : Type 0 where
       PreferredRelaxation (table_question t f) f.requests (relaxation_by_halving (table_question t f) f.requests).set
 
 abbrev pub EveryTableHasTheRightSets : Type 0
-EveryTableHasTheRightSets = (t : List ℕ) (f : Frame) → reading t ≡ Accepted f → TheSetsAreRight t f
+EveryTableHasTheRightSets = (t : List ℕ) (f : Frame) → reading t ≡ Ok f → TheSetsAreRight t f
 
 -- two report calls end at one place, and their buffers are equal but for four bytes: the count, which stands six bytes after the start
 pub record SameButTheCount (start place place' : ℕ) (after after' : List ℕ) : Type 0 where
@@ -85,13 +84,13 @@ pub record SameButTheCount (start place place' : ℕ) (after after' : List ℕ) 
 -- Demand 2 by the reports: what halving and one by one write differs in the count alone.
 pub record BothMethodsTellOneSet : Type 0 where
   pub conflict :
-      (t : List ℕ) (f : Frame) → reading t ≡ Accepted f → (buffer : List ℕ) (start : ℕ) → room_for f.requests buffer start ≡ true →
+      (t : List ℕ) (f : Frame) → reading t ≡ Ok f → (buffer : List ℕ) (start : ℕ) → room_for f.requests buffer start ≡ true →
       (n p : ℕ) (a : List ℕ) (n' p' : ℕ) (a' : List ℕ) →
       ReportCall ConflictByHalving t buffer start n p a →
       ReportCall ConflictOneByOne t buffer start n' p' a' →
       SameButTheCount start p p' a a'
   pub relaxation :
-      (t : List ℕ) (f : Frame) → reading t ≡ Accepted f → (buffer : List ℕ) (start : ℕ) → room_for f.requests buffer start ≡ true →
+      (t : List ℕ) (f : Frame) → reading t ≡ Ok f → (buffer : List ℕ) (start : ℕ) → room_for f.requests buffer start ≡ true →
       (n p : ℕ) (a : List ℕ) (n' p' : ℕ) (a' : List ℕ) →
       ReportCall RelaxationByHalving t buffer start n p a →
       ReportCall RelaxationOneByOne t buffer start n' p' a' →
@@ -107,8 +106,8 @@ pub record StandAlike (t : List ℕ) (f : Frame) (u : List ℕ) (g : Frame) : Ty
 abbrev pub ReportsTellNoMore : Type 0
 ReportsTellNoMore =
     (t u : List ℕ) (f g : Frame) →
-    reading t ≡ Accepted f →
-    reading u ≡ Accepted g →
+    reading t ≡ Ok f →
+    reading u ≡ Ok g →
     StandAlike t f u g →
     (method : Method) (buffer : List ℕ) (start n p : ℕ) (a : List ℕ) (n' p' : ℕ) (a' : List ℕ) →
     ReportCall method t buffer start n p a →
@@ -130,7 +129,7 @@ pub record TheCountIsBounded (t : List ℕ) (f : Frame) : Type 0 where
       (answer : Answer) → RightAnswer RelaxationByHalving (table_question t f) f.requests answer → answer.status ≡ 2 → answer.asked ≤ 2
 
 abbrev pub EveryCountIsBounded : Type 0
-EveryCountIsBounded = (t : List ℕ) (f : Frame) → reading t ≡ Accepted f → TheCountIsBounded t f
+EveryCountIsBounded = (t : List ℕ) (f : Frame) → reading t ≡ Ok f → TheCountIsBounded t f
 
 -- a fact about the bytes that every call of a method with room leaves in the buffer, from the start on
 abbrev pub OfEveryReport : Method → List ℕ → List ℕ → ℕ → (List ℕ → Type 0) → Type 0
@@ -150,6 +149,6 @@ pub record TheReportsAreBounded (t : List ℕ) (f : Frame) (buffer : List ℕ) (
 
 abbrev pub EveryReportIsBounded : Type 0
 EveryReportIsBounded =
-    (t : List ℕ) (f : Frame) → reading t ≡ Accepted f →
+    (t : List ℕ) (f : Frame) → reading t ≡ Ok f →
     (buffer : List ℕ) (start : ℕ) → room_for f.requests buffer start ≡ true →
     TheReportsAreBounded t f buffer start

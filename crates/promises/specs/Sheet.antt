@@ -1,11 +1,10 @@
 -- The sample sheet of document 01, rows A to K: each row has its table, byte for byte as the crate `table` has it, and what the sheet says of it.
 -- `answers_of` goes from the bytes to the answers through the definitions that the public calls promise, and `SheetHolds` is the one claim:
 -- for every row, what is computed is what is stated.
-use Rattle.std.specs.Prelude.{ℕ, ◌≡◌, true, false, List, [], ◌∷◌, ◌++◌, map, take}
+use Rattle.std.specs.Prelude.{ℕ, ◌≡◌, true, false, List, [], ◌∷◌, ◌++◌, map, take, Ok, Err}
 use Rattle.table.specs.declared.record.Frame.{Frame}
-use Rattle.table.specs.declared.reading.Reading.{Reading}
-use Rattle.table.specs.declared.reading.Reading.TheVariants.{Accepted, Refused}
-use Rattle.table.specs.Reading.{reading}
+use Rattle.table.specs.Refusals.{number_of}
+use Rattle.table.specs.Reading.{Reading, reading}
 use Rattle.table.specs.Sheet.{table_a, table_b, table_c, table_d, table_e, table_f, table_g, table_h, table_i, table_j, table_k, table_three}
 use Rattle.table.specs.Samples.{frame_h}
 use Rattle.preference.specs.Answer.{Answer}
@@ -43,7 +42,7 @@ answer_in t f method = answer_by method (table_question t f) f.requests
 
 -- what a reading makes of its table
 unfoldable pub answers_by : Reading → List ℕ → Outcome
-answers_by (Accepted f) t =
+answers_by (Ok f) t =
     answers
     (record {
       conflict = line_of t f (answer_in t f ConflictByHalving);
@@ -51,7 +50,7 @@ answers_by (Accepted f) t =
       conflict_one_by_one = line_of t f (answer_in t f ConflictOneByOne);
       relaxation_one_by_one = line_of t f (answer_in t f RelaxationOneByOne);
     })
-answers_by (Refused r) t = refusal r.number r.place
+answers_by (Err r) t = refusal (number_of r.fault) r.place
 
 -- from the bytes of a table to its answers
 abbrev pub answers_of : List ℕ → Outcome
@@ -151,7 +150,7 @@ lent_start = 2
 
 -- the table is accepted with this frame, the buffer has room, and the report of a method leaves this buffer and ends at this place
 pub record ReportIs (method : Method) (t : List ℕ) (f : Frame) (after : List ℕ) (end : ℕ) : Type 0 where
-  pub accepted : reading t ≡ Accepted f
+  pub accepted : reading t ≡ Ok f
   pub room : room_for f.requests lent_buffer lent_start ≡ true
   pub bytes : buffer_after method t f lent_buffer lent_start (answer_in t f method) ≡ after
   pub ends : place_after t f lent_start (answer_in t f method) ≡ end

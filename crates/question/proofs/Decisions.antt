@@ -1,91 +1,119 @@
--- The decisions of a lent trail: the loop that takes some of them back, and what is written at its end.
-use Prim.Native.Nat.{ℕ, zero, suc, ◌+◌, ◌-◌, ◌<◌, ◌≤◌}
-use mathlib.Core.Path.{◌≡◌, refl, sym, ap, ◌∙◌}
-use mathlib.Core.Bool.{Bool, true, false, cond, true≢false}
-use mathlib.Core.List.{List, [], ◌∷◌}
-use native.Mathlib.Omega.{arith}
-use lib.Dec.{eqb}
-use lib.ListN.{length, get_or, set}
-use lib.Seq.{get_or-set_same, get_or-set_other}
-use borrow.Author.Tests.{eq-eqb, ne_eqb, eqb-true, eqb-false}
+-- The decisions of a trail, and the loop that takes some of them back: what it keeps.
+use Rattle.std.proofs.Common.{◌≡◌, ℕ, suc, ◌+◌, ◌-◌, ◌<◌, ◌≤◌, Bool, true, false, cond, eqb, List, [], ◌∷◌, length, get_or, set, reverse, take, Some, None}
+use Rattle.std.proofs.Common.{refl, sym, ap, ◌∙◌, arith, eq-eqb, ne_eqb, eqb-true}
+use Rattle.std.proofs.lemmas.Bool.{eqb-false}
+use Rattle.std.proofs.lemmas.List.{length-set, length-take-le, get_or-take, ext_get_or, reverse-append, take_more_set}
+use Rattle.std.proofs.Math.Seq.{take-suc}
+use Rattle.std.proofs.lemmas.List.Elements.{All-tail}
 use Rattle.meaning.specs.HalfMade.{Values}
-use Rattle.question.specs.Trail.{Decided, decisions, back_to, values_back, TakenBack}
+use Rattle.question.specs.declared.trail.Decided.{Decided}
+use Rattle.question.specs.Trail.{decisions, EachInside, back_to, values_back, TakenBack}
 
-module _ (variables waiting : List ℕ) where
-  -- how far the loop has come: what is to be taken back of the first `left` decisions is what was to be taken back of all
-  pub record TakingBack (depth left : ℕ) (before values : Values) : Type 0 where
-    pub few : left ≤ depth
-    pub same_trail : back_to (decisions variables waiting left) ≡ back_to (decisions variables waiting depth)
-    pub same_values : values_back (decisions variables waiting left) values ≡ values_back (decisions variables waiting depth) before
+-- trails that are equal in their first entries have the same decisions
+pub decisions_same :
+    (entries others : List Decided) (depth : ℕ) →
+    depth ≤ length entries →
+    depth ≤ length others →
+    ((k : ℕ) (d : Decided) → k < depth → get_or others k d ≡ get_or entries k d) →
+    decisions others depth ≡ decisions entries depth
+decisions_same entries others depth a b same =
+    let none : Decided = record { variable = 0; waiting = 0 } in
+    let one : length (take depth entries) ≡ depth = length-take-le depth entries a in
+    let other : length (take depth others) ≡ depth = length-take-le depth others b in
+    ap reverse (ext_get_or none (take depth others) (take depth entries) (other ∙ sym one)
+    (λ k h. let below : k < depth = omega arith in rw (get_or-take depth others k none below, get_or-take depth entries k none below) (same k none below)))
 
-  pub back_start : (depth : ℕ) (values : Values) → TakingBack depth depth values values
-  back_start depth values = record { few = omega arith; same_trail = refl; same_values = refl }
+-- one decision more
+pub decisions_more :
+    (entries : List Decided) (depth : ℕ) (decision : Decided) →
+    depth < length entries →
+    decisions (set entries depth decision) (depth + 1) ≡ decision ∷ decisions entries depth
+decisions_more entries depth decision h =
+    rw (take_more_set entries depth decision h) (reverse-append (take depth entries) (decision ∷ []))
 
-  last_trail :
-      (left : ℕ) →
-      0 < left →
-      back_to (decisions variables waiting left)
-      ≡ cond (eqb (get_or waiting (left - 1) 0) 0) (back_to (decisions variables waiting (left - 1))) (decisions variables waiting left)
-  unfolding decisions back_to
-  last_trail zero h = absurd (omega arith)
-  last_trail (suc left) h = let e : suc left - 1 ≡ left = omega arith in rw e refl
+-- the last decision
+pub decisions_last :
+    (entries : List Decided) (depth : ℕ) (d : Decided) →
+    0 < depth →
+    depth ≤ length entries →
+    decisions entries depth ≡ get_or entries (depth - 1) d ∷ decisions entries (depth - 1)
+decisions_last entries depth d some few =
+    let e : suc (depth - 1) ≡ depth = omega arith in
+    ap (λ (n : ℕ). reverse (take n entries)) (sym e)
+    ∙ ap reverse (take-suc entries (depth - 1) d (omega arith))
+    ∙ reverse-append (take (depth - 1) entries) (get_or entries (depth - 1) d ∷ [])
 
-  last_values :
-      (left : ℕ) (values : Values) →
-      0 < left →
-      values_back (decisions variables waiting left) values
-      ≡ cond (eqb (get_or waiting (left - 1) 0) 0) (values_back (decisions variables waiting (left - 1)) (set values (get_or variables (left - 1) 0) 2)) values
-  unfolding decisions values_back
-  last_values zero values h = absurd (omega arith)
-  last_values (suc left) values h = let e : suc left - 1 ≡ left = omega arith in rw e refl
+-- nothing waits any more for the last decision
+pub decisions_turned :
+    (entries : List Decided) (depth variable : ℕ) →
+    0 < depth →
+    depth ≤ length entries →
+    decisions (set entries (depth - 1) (record { variable = variable; waiting = 0 })) depth
+    ≡ record { variable = variable; waiting = 0 } ∷ decisions entries (depth - 1)
+decisions_turned entries depth variable some few =
+    let e : depth - 1 + 1 ≡ depth = omega arith in
+    rw e at (decisions_more entries (depth - 1) (record { variable = variable; waiting = 0 }) (omega arith))
 
-  module _ (depth left : ℕ) (before values : Values) (taking : TakingBack depth left before values) where
+module _ (trail : List Decided) (values : Values) where
+  -- how far the loop has come: what is to be taken back of the decisions that are left is what was to be taken back of all
+  pub record TakingBack (left : List Decided) (now-values : Values) : Type 0 where
+    pub inside : EachInside now-values left
+    pub same_trail : back_to left ≡ back_to trail
+    pub same_values : values_back left now-values ≡ values_back trail values
+
+module _ {trail : List Decided} {values : Values} where
+  module _ {last : Decided} {earlier : List Decided} {now-values : Values} (taking : TakingBack trail values (last ∷ earlier) now-values) where
     -- both values of the last decision are tried
-    pub back_turn : 0 < left → get_or waiting (left - 1) 0 ≡ 0 → TakingBack depth (left - 1) before (set values (get_or variables (left - 1) 0) 2)
-    back_turn h e =
+    pub back_turn : last.waiting ≡ 0 → TakingBack trail values earlier (set now-values last.variable None)
+    unfolding back_to values_back
+    back_turn e =
         record {
-          few = omega (arith, taking.few);
-          same_trail = sym (rw (eq-eqb _ _ e) at (last_trail left h)) ∙ taking.same_trail;
-          same_values = sym (rw (eq-eqb _ _ e) at (last_values left values h)) ∙ taking.same_values;
+          inside = λ k d h. simp length-set (All-tail (λ decided. decided.variable < length now-values) last earlier taking.inside k d h);
+          same_trail = rw (eq-eqb last.waiting 0 e) at taking.same_trail;
+          same_values = rw (eq-eqb last.waiting 0 e) at taking.same_values;
         }
 
-    -- rows wait for the other value of the last decision
-    pub back_stop : 0 < left → (get_or waiting (left - 1) 0 ≡ 0 → ⊥) → TakenBack variables waiting depth left before values
-    back_stop h differ =
+    -- rows wait for its other value
+    pub back_stop : (last.waiting ≡ 0 → ⊥) → TakenBack trail values (Some last) earlier now-values
+    unfolding back_to values_back
+    back_stop differ =
         record {
-          few = taking.few;
-          trail = sym (rw (ne_eqb _ _ differ) at (last_trail left h)) ∙ taking.same_trail;
-          values_back = sym (rw (ne_eqb _ _ differ) at (last_values left values h)) ∙ taking.same_values;
+          last = sym (rw (ne_eqb last.waiting 0 differ) at taking.same_trail);
+          values_back = rw (ne_eqb last.waiting 0 differ) at taking.same_values;
         }
 
-    -- no decision is left
-    pub back_end : left ≡ 0 → TakenBack variables waiting depth 0 before values
-    unfolding decisions back_to values_back
-    back_end e = record { few = omega arith; trail = rw e at taking.same_trail; values_back = rw e at taking.same_values }
+  -- no decision is left
+  pub back_end :
+      {left earlier : List Decided} {now-values : Values} →
+      TakingBack trail values left now-values →
+      (left ≡ []) × (earlier ≡ []) →
+      TakenBack trail values None earlier now-values
+  unfolding back_to values_back
+  back_end taking (none, empty) = record { last = (sym (rw none at taking.same_trail), empty); values_back = rw none at taking.same_values }
 
 -- what holds of a trail and its values still holds when decisions are taken back, if it does after one of which both values are tried
 module _ (Holds : List Decided → Values → Type 0)
     (step : (last : Decided) (earlier : List Decided) (values : Values) →
     last.waiting ≡ 0 →
     Holds (last ∷ earlier) values →
-    Holds earlier (set values last.variable 2)) where
+    Holds earlier (set values last.variable None)) where
   pub back_keeps : (trail : List Decided) (values : Values) → Holds trail values → Holds (back_to trail) (values_back trail values)
   unfolding back_to values_back
   back_keeps [] values holds = holds
-  back_keeps (last ∷ earlier) values holds = go (eqb last.waiting 0) refl (back_keeps earlier (set values last.variable 2))
+  back_keeps (last ∷ earlier) values holds = go (eqb last.waiting 0) refl (back_keeps earlier (set values last.variable None))
     where
       go :
           (none : Bool) →
           eqb last.waiting 0 ≡ none →
-          (Holds earlier (set values last.variable 2) → Holds (back_to earlier) (values_back earlier (set values last.variable 2))) →
-          Holds (cond none (back_to earlier) (last ∷ earlier)) (cond none (values_back earlier (set values last.variable 2)) values)
+          (Holds earlier (set values last.variable None) → Holds (back_to earlier) (values_back earlier (set values last.variable None))) →
+          Holds (cond none (back_to earlier) (last ∷ earlier)) (cond none (values_back earlier (set values last.variable None)) values)
       go true p more = more (step last earlier values (eqb-true last.waiting 0 p) holds)
       go false p more = holds
 
 -- rows wait for the last of the decisions that are left
 pub back_waits : (trail : List Decided) (last : Decided) (earlier : List Decided) → back_to trail ≡ last ∷ earlier → 0 < last.waiting
 unfolding back_to
-back_waits [] last earlier e = let z : ◌≡◌ {A = Bool} true false = cc in absurd (true≢false z)
+back_waits [] last earlier e = let z : ⊥ = cc in absurd z
 back_waits (first ∷ more) last earlier e = go (eqb first.waiting 0) refl e (back_waits more last earlier)
   where
     go :
@@ -99,66 +127,3 @@ back_waits (first ∷ more) last earlier e = go (eqb first.waiting 0) refl e (ba
         let same : first ≡ last = cc in
         let some : first.waiting ≡ 0 → ⊥ = eqb-false first.waiting 0 p in
         rw (← same) (omega arith)
-
--- trails that are equal in their first entries have the same decisions
-pub decisions_same :
-    (variables waiting variables' waiting' : List ℕ) (depth : ℕ) →
-    ((k : ℕ) → k < depth → get_or variables' k 0 ≡ get_or variables k 0) →
-    ((k : ℕ) → k < depth → get_or waiting' k 0 ≡ get_or waiting k 0) →
-    decisions variables' waiting' depth ≡ decisions variables waiting depth
-unfolding decisions
-decisions_same variables waiting variables' waiting' zero same same-waiting = refl
-decisions_same variables waiting variables' waiting' (suc depth) same same-waiting =
-    rw (
-      same depth (omega arith),
-      same-waiting depth (omega arith),
-      decisions_same variables waiting variables' waiting' depth (λ k h. same k (omega arith)) (λ k h. same-waiting k (omega arith)),
-    )
-
-pub length-decisions : (variables waiting : List ℕ) (depth : ℕ) → length (decisions variables waiting depth) ≡ depth
-unfolding decisions
-length-decisions variables waiting zero = refl
-length-decisions variables waiting (suc depth) = ap suc (length-decisions variables waiting depth)
-
--- the last decision
-pub decisions_last :
-    (variables waiting : List ℕ) (depth : ℕ) →
-    0 < depth →
-    decisions variables waiting depth
-    ≡ record { variable = get_or variables (depth - 1) 0; waiting = get_or waiting (depth - 1) 0 } ∷ decisions variables waiting (depth - 1)
-unfolding decisions
-decisions_last variables waiting zero h = absurd (omega arith)
-decisions_last variables waiting (suc depth) h = let e : suc depth - 1 ≡ depth = omega arith in rw e refl
-
--- one decision more
-pub decisions_more :
-    (variables waiting : List ℕ) (depth variable wait : ℕ) →
-    depth < length variables →
-    depth < length waiting →
-    decisions (set variables depth variable) (set waiting depth wait) (depth + 1)
-    ≡ record { variable = variable; waiting = wait } ∷ decisions variables waiting depth
-unfolding decisions
-decisions_more variables waiting depth variable wait a b =
-    let e : depth + 1 ≡ suc depth = omega arith in
-    rw (
-      e,
-      get_or-set_same variables depth variable 0 a,
-      get_or-set_same waiting depth wait 0 b,
-      decisions_same variables waiting (set variables depth variable) (set waiting depth wait) depth
-          (λ k h. get_or-set_other variables depth k variable 0 (λ e. omega arith)) (λ k h. get_or-set_other waiting depth k wait 0 (λ e. omega arith)),
-    )
-
--- nothing waits any more for the last decision
-pub decisions_turned :
-    (variables waiting : List ℕ) (depth : ℕ) →
-    0 < depth →
-    depth - 1 < length waiting →
-    decisions variables (set waiting (depth - 1) 0) depth
-    ≡ record { variable = get_or variables (depth - 1) 0; waiting = 0 } ∷ decisions variables waiting (depth - 1)
-decisions_turned variables waiting depth h inside =
-    decisions_last variables (set waiting (depth - 1) 0) depth h
-    ∙ rw (
-      get_or-set_same waiting (depth - 1) 0 0 inside,
-      decisions_same variables waiting variables (set waiting (depth - 1) 0) (depth - 1)
-          (λ k below. refl) (λ k below. get_or-set_other waiting (depth - 1) k 0 0 (λ e. omega arith)),
-    )

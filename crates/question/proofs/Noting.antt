@@ -1,31 +1,26 @@
 -- The walk that notes the places of the rows that count, and why they are all that a question asks about.
-use Prim.Native.Nat.{ℕ, zero, suc, ◌+◌, ◌-◌, ◌<◌, ◌≤◌}
-use mathlib.Core.Path.{◌≡◌, refl, sym, ap, ◌∙◌}
-use mathlib.Core.Bool.{Bool, true, false, cond, ◌&&◌}
-use mathlib.Core.List.{List, [], ◌∷◌, ◌++◌, append_assoc, append-nil}
-use native.Mathlib.Omega.{arith}
-use native.Mathlib.Numerals.{add-one}
-use native.Mathlib.Nat.{add-zero}
-use lib.Dec.{eqb-suc-zero}
-use lib.ListN.{length, get_or, take, set}
-use lib.Seq.{take-set-le, take-suc-set, get_or-take, length-take-le}
+use Rattle.std.proofs.Common.{Ok, ◌≡◌, ℕ, zero, suc, ◌+◌, ◌<◌, ◌≤◌, Bool, true, false, cond, ◌&&◌, List, [], ◌∷◌, ◌++◌, length, get_or, take, set, All}
+use Rattle.std.proofs.Common.{refl, sym, ap, ◌∙◌, arith, add-one, add-zero, append_assoc}
+use Rattle.std.proofs.lemmas.List.{append-nil, take-set-le}
+use Rattle.std.proofs.lemmas.List.Elements.{All-head, All-tail, All-filter}
+use Rattle.std.proofs.Math.Seq.{take-suc-set}
+use Rattle.std.proofs.Math.Dec.{eqb-suc-zero}
+use mir.Val.{bool_byte}
 use Rattle.table.specs.declared.record.Frame.{Frame}
 use Rattle.table.specs.Lists.{every}
 use Rattle.table.specs.Words.{u16_at}
 use Rattle.table.specs.Rows.{rows, row_at, after}
-use Rattle.table.specs.Kept.{RowKept, RowsKept, first_row}
+use Rattle.table.specs.Reading.{reading}
+use Rattle.table.specs.Kept.{RowKept, Kept, first_row}
+use Rattle.table.proofs.Accepted.{accepted_keeps}
 use Rattle.meaning.specs.Meaning.{Setting, value_of, meets, role_of, counts, respects, meets_all}
 use Rattle.meaning.specs.Stands.{by_role}
+use Rattle.meaning.proofs.OneRow.{row_long, row_role, role_at}
 use Rattle.question.specs.MayAsk.{MayAsk}
+use Rattle.question.specs.RowPlaces.{row_places}
 use Rattle.question.specs.Counting.{counting_places, Noted}
-use Rattle.meaning.specs.WholeRows.{RowsAsked}
-use Rattle.meaning.proofs.OneRow.{row_role, role_at}
-
--- each of the rows that are left is whole and in range
-pub rows_kept_turn : (v n : ℕ) (t : List ℕ) (k at end : ℕ) → 0 < k → RowsKept v n t k at end → RowKept v n t at × RowsKept v n t (k - 1) (after t at) end
-unfolding RowsKept
-rows_kept_turn v n t zero at end h kept = absurd (omega arith)
-rows_kept_turn v n t (suc k) at end h kept = let e : suc k - 1 ≡ k = omega arith in (kept.0, rw e kept.1)
+use Rattle.question.proofs.Rearranging.{EachAsked}
+use Rattle.question.proofs.Walking.{length-row_places, each_kept}
 
 -- a row that counts is one more to meet, another changes nothing
 one_row :
@@ -33,52 +28,40 @@ one_row :
     test at ≡ met →
     every test places ≡ rest →
     every test (cond counting (at ∷ places) places) ≡ (cond counting met true && rest)
-unfolding every
 one_row true met rest test at places e f = rw (e, f)
 one_row false met rest test at places e f = f
 
 -- a setting meets the rows at the places of those that count exactly where it meets all that counts
 pub every_counting :
     (chosen : ℕ → Bool) (setting : Setting) (m : ℕ) (t : List ℕ) (at : ℕ) →
-    every (λ place. meets setting (row_at t place)) (counting_places chosen m t at) ≡ meets_all chosen setting (rows m t at)
-unfolding counting_places rows meets_all every respects
+    every (λ place. meets setting (row_at t place)) (counting_places chosen t (row_places m t at)) ≡ meets_all chosen setting (rows m t at)
+unfolding row_places rows meets_all respects
 every_counting chosen setting zero t at = refl
 every_counting chosen setting (suc m) t at =
     one_row (counts chosen (role_of (row_at t at))) (meets setting (row_at t at)) _
-    (λ place. meets setting (row_at t place)) at (counting_places chosen m t (after t at)) refl (every_counting chosen setting m t (after t at))
+    (λ place. meets setting (row_at t place)) at (counting_places chosen t (row_places m t (after t at))) refl (every_counting chosen setting m t (after t at))
 
--- the rows at these places are whole and in range
-module _ (chosen : ℕ → Bool) (v n : ℕ) (t : List ℕ) where
-  abbrev EachKept : List ℕ → Type 0
-  EachKept places = (i : ℕ) → i < length places → RowKept v n t (get_or places i 0)
-
-  one_more : (counting : Bool) (at : ℕ) (places : List ℕ) → RowKept v n t at → EachKept places → EachKept (cond counting (at ∷ places) places)
-  one_more true at places here there zero h = here
-  one_more true at places here there (suc i) h = there i (omega arith)
-  one_more false at places here there i h = there i h
-
-  pub counting_kept : (m at end : ℕ) → RowsKept v n t m at end → EachKept (counting_places chosen m t at)
-  unfolding counting_places RowsKept
-  counting_kept zero at end kept = λ i h. absurd (omega arith)
-  counting_kept (suc m) at end kept =
-      one_more (counts chosen (role_of (row_at t at))) at (counting_places chosen m t (after t at)) kept.0 (counting_kept m (after t at) end kept.1)
-
--- so that the search may read them
+-- the search may read the rows at these places
 pub noted_asked :
     (t : List ℕ) (f : Frame) (chosen : List Bool) (places : List ℕ) (noted variables : ℕ) →
-    MayAsk t f chosen →
+    Kept t f →
     Noted (by_role chosen) f.rows t places noted →
     variables ≡ f.variables →
-    RowsAsked t places noted variables
-noted_asked t f chosen places noted variables asked counting h =
-    record { few = counting.few; each = λ i below. record { requests = f.requests; row_kept = rw h (there i below) } }
+    EachAsked t variables (take noted places)
+noted_asked t f chosen places noted variables kept counting h =
+    record {
+      few = omega arith;
+      each = λ i below.
+          record {
+            requests = f.requests;
+            row_kept = rw (h, counting.places_noted) (those_kept i 0 (omega (arith, ap length counting.places_noted)));
+          };
+    }
   where
-    there : (i : ℕ) → i < noted → RowKept f.variables f.requests t (get_or places i 0)
-    there i below =
-        let long : length (take noted places) ≡ noted = length-take-le noted places counting.few in
-        let many : i < length (counting_places (by_role chosen) f.rows t first_row) = omega (arith, ap length counting.places_noted) in
-        rw (← get_or-take noted places i 0 below, counting.places_noted)
-        (counting_kept (by_role chosen) f.variables f.requests t f.rows first_row f.order asked.kept.rows_kept i many)
+    those_kept : All (RowKept f.variables f.requests t) (counting_places (by_role chosen) t (row_places f.rows t first_row))
+    those_kept =
+        All-filter (λ place. counts (by_role chosen) (role_of (row_at t place))) (RowKept f.variables f.requests t) (row_places f.rows t first_row)
+        (each_kept {v = f.variables} {n = f.requests} {t = t} f.rows first_row f.order kept.rows_kept)
 
 -- with the host's entry true, what counts is what is chosen
 counts_chosen : (chosen : List Bool) → get_or chosen 0 false ≡ true → (role : ℕ) → counts (by_role chosen) role ≡ get_or chosen role false
@@ -86,16 +69,11 @@ unfolding counts
 counts_chosen chosen host zero = sym host
 counts_chosen chosen host (suc role) = rw (eqb-suc-zero role)
 
--- of rows that are left the first adds its place where it counts
-counting_turn :
-    (chosen : ℕ → Bool) (k : ℕ) (t : List ℕ) (at : ℕ) → 0 < k →
-    counting_places chosen k t at
-    ≡ cond (counts chosen (role_of (row_at t at))) (at ∷ counting_places chosen (k - 1) t (after t at)) (counting_places chosen (k - 1) t (after t at))
-unfolding counting_places
-counting_turn chosen zero t at h = absurd (omega arith)
-counting_turn chosen (suc k) t at h =
-    let e : k ≡ suc k - 1 = omega arith in
-    ap (λ (n : ℕ). cond (counts chosen (role_of (row_at t at))) (at ∷ counting_places chosen n t (after t at)) (counting_places chosen n t (after t at))) e
+-- a row takes up one place where it counts
+taken_up : (counting : Bool) (taken : ℕ) → taken ≡ bool_byte counting → (taken ≡ value_of counting) × (taken ≤ 1)
+unfolding value_of
+taken_up true taken e = (e, omega arith)
+taken_up false taken e = (e, omega arith)
 
 -- a place is written behind those that are noted, and stays where its row counts
 place_written :
@@ -106,39 +84,65 @@ place_written true places noted at more h = rw (add-one, take-suc-set places not
 place_written false places noted at more h =
     ap (λ (l : List ℕ). l ++ more) (ap (λ (n : ℕ). take n (set places noted at)) (add-zero noted) ∙ take-set-le noted places noted at (omega arith))
 
--- one turn of the walk
-module _ (t : List ℕ) (f : Frame) (chosen : List Bool) (asked : MayAsk t f chosen) (left at : ℕ)
-    (more : 0 < left) (kept : RowsKept f.variables f.requests t left at f.order) where
-  -- the row at hand is whole and in range
-  pub row_here : RowKept f.variables f.requests t at
-  row_here = (rows_kept_turn f.variables f.requests t left at f.order more kept).0
+-- how far the walk has come after so many rows: those that are left, and what is noted of the others
+pub record Walked (t : List ℕ) (f : Frame) (chosen : List Bool) (rest : List ℕ) (steps noted : ℕ) (places : List ℕ) : Type 0 where
+  pub kept : All (RowKept f.variables f.requests t) rest
+  pub few : noted ≤ steps
+  pub all : steps + length rest ≡ f.rows
+  pub whole :
+      take noted places ++ counting_places (by_role chosen) t rest ≡ counting_places (by_role chosen) t (row_places f.rows t first_row)
 
-  -- its role is an entry of the selection
-  pub role_there : (role : ℕ) → role ≡ u16_at t (at + 4) → role < length chosen
-  role_there role is = omega (arith, asked.each, row_role f.variables f.requests t at row_here)
+module _ {t : List ℕ} {f : Frame} {chosen : List Bool} where
+  -- no row is walked over
+  pub walk_starts : {places : List ℕ} → reading t ≡ Ok f → Walked t f chosen (row_places f.rows t first_row) 0 0 places
+  walk_starts accepted =
+      record {
+        kept = each_kept {v = f.variables} {n = f.requests} {t = t} f.rows first_row f.order (accepted_keeps t f accepted).rows_kept;
+        few = omega arith;
+        all = omega (arith, length-row_places f.rows t first_row);
+        whole = refl;
+      }
 
-  row_counts : (role : ℕ) → role ≡ u16_at t (at + 4) → counts (by_role chosen) (role_of (row_at t at)) ≡ get_or chosen role false
-  row_counts role is = rw (role_at f.variables f.requests t at row_here, ← is) (counts_chosen chosen asked.host role)
+  -- no row is left: the places of all that count are noted
+  pub walk_ends :
+      {steps noted : ℕ} {places : List ℕ} → f.rows ≤ length places → Walked t f chosen [] steps noted places → Noted (by_role chosen) f.rows t places noted
+  walk_ends {noted = noted} {places = places} room walked =
+      record { few = omega (arith, walked.few, walked.all); places_noted = sym (append-nil (take noted places)) ∙ walked.whole }
 
-  -- what is noted and what is still to come stay the whole
-  pub note_turn :
-      (places : List ℕ) (noted role taken : ℕ) →
-      noted < length places →
-      role ≡ u16_at t (at + 4) →
-      taken ≡ value_of (get_or chosen role false) →
-      take (noted + taken) (set places noted at) ++ counting_places (by_role chosen) (left - 1) t (after t at)
-      ≡ take noted places ++ counting_places (by_role chosen) left t at
-  note_turn places noted role taken room is e =
-      rw (e, counting_turn (by_role chosen) left t at more, row_counts role is)
-      (place_written (get_or chosen role false) places noted at (counting_places (by_role chosen) (left - 1) t (after t at)) room)
+  module _ {place : ℕ} {rest : List ℕ} {steps noted : ℕ} {places : List ℕ} (walked : Walked t f chosen (place ∷ rest) steps noted places) where
+    -- the row at hand is whole and in range
+    row_here : RowKept f.variables f.requests t place
+    row_here = All-head (RowKept f.variables f.requests t) place rest walked.kept
 
--- no row is left: the places of all that count are noted
-pub all_noted :
-    (chosen : ℕ → Bool) (m : ℕ) (t places : List ℕ) (at left noted : ℕ) →
-    left ≤ 0 →
-    noted + left ≤ length places →
-    take noted places ++ counting_places chosen left t at ≡ counting_places chosen m t first_row →
-    Noted chosen m t places noted
-unfolding counting_places
-all_noted chosen m t places at zero noted none room e = record { few = omega arith; places_noted = sym (append-nil (take noted places)) ∙ e }
-all_noted chosen m t places at (suc left) noted none room e = absurd (omega arith)
+    -- so that its role stands in the table, and a list with an entry for each row has room for its place
+    pub stands_here : reading t ≡ Ok f → (place + 6 ≤ length t) × (length t < 65536) × (noted < f.rows)
+    stands_here accepted =
+        let long = row_long f.variables f.requests t place row_here in
+        (omega (arith, long, row_here.whole), omega (arith, (accepted_keeps t f accepted).short), omega (arith, walked.few, walked.all))
+
+    module _ (asked : MayAsk f chosen) where
+      -- its role is an entry of the selection
+      pub role_there : {role : ℕ} → role ≡ u16_at t (place + 4) → role < length chosen
+      role_there is = omega (arith, asked.each, row_role f.variables f.requests t place row_here)
+
+      row_counts : (role : ℕ) → role ≡ u16_at t (place + 4) → counts (by_role chosen) (role_of (row_at t place)) ≡ get_or chosen role false
+      row_counts role is = rw (role_at f.variables f.requests t place row_here, ← is) (counts_chosen chosen asked.host role)
+
+      -- it is noted where it counts, and what is noted and what is still to come stay the whole
+      pub walk_turns :
+          {role taken later : ℕ} →
+          later ≡ steps + 1 →
+          noted < length places →
+          role ≡ u16_at t (place + 4) →
+          taken ≡ bool_byte (get_or chosen role false) →
+          Walked t f chosen rest later (noted + taken) (set places noted place)
+      walk_turns {role = role} {taken = taken} one inside is e =
+          record {
+            kept = All-tail (RowKept f.variables f.requests t) place rest walked.kept;
+            few = omega (arith, walked.few, (taken_up (get_or chosen role false) taken e).1);
+            all = omega (arith, walked.all);
+            whole =
+                rw ((taken_up (get_or chosen role false) taken e).0)
+                (place_written (get_or chosen role false) places noted place (counting_places (by_role chosen) t rest) inside
+                ∙ (rw (row_counts role is) at walked.whole));
+          }

@@ -1,22 +1,20 @@
 -- Each way out of a look at a half-made setting.
-use Prim.Native.Nat.{ℕ, ◌<◌, ◌≤◌}
-use mathlib.Core.Path.{◌≡◌, refl}
-use mathlib.Core.Bool.{Bool, true, false}
-use mathlib.Core.List.{List}
-use native.Mathlib.Omega.{arith}
-use lib.Dec.{ltb}
-use lib.ListN.{length, get_or}
-use borrow.Author.Tests.{ltb-true, ltb-false}
+use Rattle.std.proofs.Common.{sym, ◌≡◌, ℕ, ◌<◌, Bool, true, false, ltb, List, ◌++◌, length, get_or, take, drop, refl, arith, IsPermutation, Ok, Err}
+use Rattle.std.proofs.Common.{ltb-true, ltb-false}
+use Rattle.std.proofs.lemmas.List.{get_or-take, length-take-le}
+use Rattle.std.proofs.lemmas.List.Elements.{All-take}
+use Rattle.std.proofs.lemmas.List.Sorted.{IsPermutation-sym, IsPermutation-trans, All-permutation}
 use Rattle.meaning.specs.Meaning.{Setting}
 use Rattle.meaning.specs.HalfMade.{Values, is_free, Agrees}
-use Rattle.meaning.proofs.HalfMade.{settled, settled_agrees}
+use Rattle.meaning.proofs.HalfMade.{free_below, settled, settled_agrees}
 use Rattle.meaning.proofs.Pruning.{decided_meets}
-use Rattle.question.specs.declared.looking.Seen.TheVariants.{Fails, Met, Open}
-use Rattle.question.specs.Rearranging.{Among, Rearranged}
-use Rattle.question.specs.Completing.{Completion, MeetsAt, MeetsFirst}
-use Rattle.question.specs.Narrowing.{Reduced, Narrowed}
+use Rattle.choice.specs.Chosen.{AllDecided}
+use Rattle.question.specs.declared.narrowing.FailedRow.{FailedRow}
+use Rattle.question.specs.declared.looking.Seen.TheVariants.{Fails, Met}
+use Rattle.question.specs.Completing.{Completion, MeetsAt, MeetsEach}
+use Rattle.question.specs.Narrowing.{OpenInFront, Reduced, Narrowed}
 use Rattle.question.specs.Looking.{Looked}
-use Rattle.question.proofs.Rearranging.{rearranged_twice, rearranged_within}
+use Rattle.question.proofs.Rearranging.{front_rearranged}
 
 -- a completion stays one for a test that passes where the other does
 pub passing_too :
@@ -27,85 +25,98 @@ pub passing_too :
 passing_too more found = record { setting = found.setting; agrees = found.agrees; passes = more found.setting found.agrees found.passes }
 
 -- rows that are met in one arrangement are met in another
-module _ (t : List ℕ) (count : ℕ) (before after : List ℕ) (moved : Rearranged count before after) where
-  pub met_before : (setting : Setting) → MeetsFirst t after count setting → MeetsFirst t before count setting
-  met_before setting met =
-      record { each = λ i h. let x : Among after count (get_or before i 0) = moved.none_lost i h in rw (← x.there) (met.each x.place x.below) }
+module _ (t before after : List ℕ) (moved : IsPermutation before after) (setting : Setting) where
+  pub met_after : MeetsEach t before setting → MeetsEach t after setting
+  met_after met = record { each = All-permutation (MeetsAt t setting) before after moved met.each }
 
-  pub met_after : (setting : Setting) → MeetsFirst t before count setting → MeetsFirst t after count setting
-  met_after setting met =
-      record { each = λ i h. let x : Among before count (get_or after i 0) = moved.none_new i h in rw (← x.there) (met.each x.place x.below) }
+  pub met_before : MeetsEach t after setting → MeetsEach t before setting
+  met_before met = record { each = All-permutation (MeetsAt t setting) after before (IsPermutation-sym before after moved) met.each }
 
--- a setting that meets the rows that are left meets all, where it meets the others
+-- and so are the first of them
+pub met_front : (t places : List ℕ) (few : ℕ) (setting : Setting) → MeetsEach t places setting → MeetsEach t (take few places) setting
+met_front t places few setting met = record { each = All-take (MeetsAt t setting) few places met.each }
+
+-- a setting that meets the rows that are left meets all, where it has the decided values
 pub met_whole :
-    (t places : List ℕ) (left count : ℕ) (setting : Setting) →
-    ((i : ℕ) → left ≤ i → i < count → MeetsAt t (get_or places i 0) setting) →
-    MeetsFirst t places left setting →
-    MeetsFirst t places count setting
-met_whole t places left count setting others met = record { each = λ i h. at_place i h (ltb i left) refl }
+    (t : List ℕ) (values : Values) (places : List ℕ) (left : ℕ) →
+    OpenInFront t values places left →
+    (setting : Setting) →
+    Agrees values setting →
+    MeetsEach t (take left places) setting →
+    MeetsEach t places setting
+met_whole t values places left in_front setting agrees met = record { each = λ k d h. at_place k d h (ltb k left) refl }
   where
-    at_place : (i : ℕ) → i < count → (less : Bool) → ltb i left ≡ less → MeetsAt t (get_or places i 0) setting
-    at_place i h true p = met.each i (ltb-true i left p)
-    at_place i h false p = others i (ltb-false i left p) h
+    at_place : (k d : ℕ) → k < length places → (less : Bool) → ltb k left ≡ less → MeetsAt t setting (get_or places k d)
+    at_place k d h true p =
+        let below : k < left = ltb-true k left p in
+        let long : length (take left places) ≡ left = length-take-le left places in_front.few in
+        rw (get_or-take left places k d below) at (met.each k d (omega arith))
+    at_place k d h false p = in_front.hold k d (ltb-false k left p) h setting agrees
 
-module _ (t : List ℕ) (values : Values) (count : ℕ) (before after : List ℕ) (left : ℕ) (reduced : Reduced t values count before after left) where
-  -- some row cannot be met
-  pub row_fails : count < left → Looked t values count before after Fails
-  row_fails h = record { rearranged = reduced.rearranged; tells = reduced.lost h }
+-- some row fails
+pub row_fails :
+    {t : List ℕ} {values : Values} {before after : List ℕ} {failed : FailedRow} →
+    Reduced t values before after (Err failed) →
+    Looked t values before after Fails
+row_fails reduced = record { rearranged = reduced.rearranged; tells = reduced.tells }
 
-  module _ (few : left ≤ count) where
-    whole : (setting : Setting) → Agrees values setting → MeetsFirst t after left setting → MeetsFirst t before count setting
-    whole setting agrees met =
-        met_before t count before after reduced.rearranged setting
-        (met_whole t after left count setting (λ i a b. reduced.hold few i a b setting agrees) met)
+module _ {t : List ℕ} {values : Values} {before after : List ℕ} {left : ℕ} (reduced : Reduced t values before after (Ok left)) where
+  -- the rows that are left decide
+  whole : (setting : Setting) → Agrees values setting → MeetsEach t (take left after) setting → MeetsEach t before setting
+  whole setting agrees met = met_before t before after reduced.rearranged setting (met_whole t values after left reduced.tells setting agrees met)
 
-    part : (setting : Setting) → Agrees values setting → MeetsFirst t before count setting → MeetsFirst t after left setting
-    part setting agrees met = record { each = λ i h. (met_after t count before after reduced.rearranged setting met).each i (omega arith) }
+  part : (setting : Setting) → Agrees values setting → MeetsEach t before setting → MeetsEach t (take left after) setting
+  part setting agrees met = met_front t after left setting (met_after t before after reduced.rearranged setting met)
 
-    -- no row is open
-    pub none_open : left ≡ 0 → Looked t values count before after Met
-    none_open e =
+  -- no row is open
+  pub none_open : left ≡ 0 → Looked t values before after Met
+  none_open e =
+      record {
+        rearranged = reduced.rearranged;
+        tells = passing_too whole (record {
+          setting = settled values;
+          agrees = settled_agrees values;
+          passes = record {
+            each = λ k d h. let long : length (take left after) ≡ left = length-take-le left after reduced.tells.few in absurd (omega arith);
+          };
+        });
+      }
+
+  -- no variable is free: some row cannot be met, or the one completion meets them all
+  module _ {front : List ℕ} where
+    moved_on : IsPermutation (take left after) front → IsPermutation before (front ++ drop left after)
+    moved_on moved =
+        IsPermutation-trans before after (front ++ drop left after) reduced.rearranged (front_rearranged after front left moved)
+
+    pub not_met : {failed : FailedRow} → Narrowed t values (take left after) front (Err failed) → Looked t values before (front ++ drop left after) Fails
+    not_met narrowed =
+        record { rearranged = moved_on narrowed.reduced.rearranged; tells = λ found. narrowed.reduced.tells (passing_too part found) }
+
+    pub met_all :
+        {again : ℕ} →
+        Narrowed t values (take left after) front (Ok again) →
+        AllDecided values (length values) →
+        Looked t values before (front ++ drop left after) Met
+    met_all {again = again} narrowed decided =
         record {
-          rearranged = reduced.rearranged;
-          tells =
-              passing_too whole (record { setting = settled values; agrees = settled_agrees values; passes = record { each = λ i h. absurd (omega arith) } });
+          rearranged = moved_on narrowed.reduced.rearranged;
+          tells = passing_too whole (record { setting = settled values; agrees = settled_agrees values; passes = all_met });
         }
+      where
+        none : (other : ℕ) → is_free values other ≡ false
+        none = free_below values decided.each
 
-    -- rows are open, and a variable is chosen that is not decided
-    pub rows_open :
-        (left ≡ 0 → ⊥) →
-        (variable first : ℕ) →
-        variable < length values →
-        is_free values variable ≡ true →
-        first ≤ 1 →
-        Looked t values count before after (Open (record { variable = variable; first = first; left = left }))
-    rows_open some variable first inside free bit =
-        record {
-          rearranged = reduced.rearranged;
-          tells = record { inside = inside; free = free; bit = bit; some = omega arith; few = few; hold = reduced.hold few };
-        }
+        open_met : MeetsEach t (take again front) (settled values)
+        open_met =
+            record {
+              each = λ k d h.
+                  let long : length (take again front) ≡ again = length-take-le again front narrowed.reduced.tells.few in
+                  let below : k < again = omega arith in
+                  rw (get_or-take again front k d below)
+                  (decided_meets values (settled values) (settled_agrees values) none _ (λ fails. narrowed.may_hold k d (omega arith) below (sym fails)));
+            }
 
-    -- no variable is free: some row cannot be met, or the one completion meets them all
-    module _ (places : List ℕ) (again : ℕ) (narrowed : Narrowed t values left after places again) where
-      moved_on : Rearranged count before places
-      moved_on =
-          rearranged_twice count before after places reduced.rearranged (rearranged_within left count after places few narrowed.reduced.rearranged)
-
-      pub not_met : left < again → Looked t values count before places Fails
-      not_met h = record { rearranged = moved_on; tells = λ found. narrowed.reduced.lost h (passing_too part found) }
-
-      pub met_all : again ≤ left → ((other : ℕ) → is_free values other ≡ false) → Looked t values count before places Met
-      met_all h none =
-          record {
-            rearranged = moved_on;
-            tells = passing_too whole (record {
-              setting = settled values;
-              agrees = settled_agrees values;
-              passes = met_before t left after places narrowed.reduced.rearranged (settled values) all_met;
-            });
-          }
-        where
-          all_met : MeetsFirst t places left (settled values)
-          all_met =
-              met_whole t places again left (settled values) (λ i a b. narrowed.reduced.hold h i a b (settled values) (settled_agrees values))
-              (record { each = λ i below. decided_meets values (settled values) (settled_agrees values) none _ (narrowed.may_hold h i below) })
+        all_met : MeetsEach t (take left after) (settled values)
+        all_met =
+            met_before t (take left after) front narrowed.reduced.rearranged (settled values)
+            (met_whole t values front again narrowed.reduced.tells (settled values) (settled_agrees values) open_met)

@@ -1,5 +1,5 @@
 -- What the search finds out about a half-made setting: whether some completion, a setting with the decided values, passes a test.
-use Rattle.std.specs.Prelude.{ℕ, ◌<◌, ◌≡◌, Bool, true, false, List, get_or}
+use Rattle.std.specs.Prelude.{ℕ, ◌≡◌, Bool, true, false, List, All}
 use Rattle.table.specs.declared.record.Frame.{Frame}
 use Rattle.table.specs.Rows.{row_at}
 use Rattle.table.specs.Kept.{rows_of}
@@ -23,9 +23,9 @@ abbrev pub MeetsCounting : List ℕ → Frame → List Bool → Setting → Type
 MeetsCounting t f chosen setting = meets_all (by_role chosen) setting (rows_of t f) ≡ true
 
 -- the setting meets the row at a place of the table
-abbrev pub MeetsAt : List ℕ → ℕ → Setting → Type 0
-MeetsAt t place setting = meets setting (row_at t place) ≡ true
+abbrev pub MeetsAt : List ℕ → Setting → ℕ → Type 0
+MeetsAt t setting place = meets setting (row_at t place) ≡ true
 
--- the setting meets the rows at the first `count` places of a list
-pub record MeetsFirst (t places : List ℕ) (count : ℕ) (setting : Setting) : Type 0 where
-  pub each : (i : ℕ) → i < count → MeetsAt t (get_or places i 0) setting
+-- the setting meets the rows at the places of a list
+pub record MeetsEach (t places : List ℕ) (setting : Setting) : Type 0 where
+  pub each : All (MeetsAt t setting) places

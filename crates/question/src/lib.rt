@@ -6,5 +6,6 @@
 mod looking;
 mod narrowing;
 mod places;
+mod rows;
 pub mod search;
 mod trail;

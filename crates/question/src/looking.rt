@@ -1,61 +1,47 @@
 // A look at a half-made setting: whether some row fails, whether all are met, or what is decided next.
-ghost use Rattle.std.specs.Prelude.{◌<◌, length};
+ghost use Rattle.std.specs.Prelude.{length};
 ghost use Rattle.meaning.specs.WholeRows.{RowsAsked};
 ghost use Rattle.question.specs.Looking.{Looked};
 
 use crate::narrowing::{narrow, narrow_unless_blind};
-use choice::choosing::choose;
-use choice::notes::blame;
+use choice::choosing::{Decision, choose};
+use choice::notes::Notes;
 
-// The variable that is decided next, the value that is tried first, and how many rows are open.
-#[derive(Clone, Copy)]
-pub struct Decision {
-    pub variable: usize,
-    pub first: u8,
-    pub left: usize,
-}
-
-// No completion meets all rows; some completion does; or the next decision will tell.
+// No completion meets all rows; some completion does; or the next decision will tell, with so many rows open.
 #[derive(Clone, Copy)]
 pub enum Seen {
     Fails,
     Met,
-    Open(Decision),
+    Open { decision: Decision, left: usize },
 }
 
-// Looks at the rows at the first `count` places; those that stay open are moved to the front. `notes` and `blind`, the number of levels that
-// are still decided without a look at the rows, choose the decision and never an answer.
+// Looks at the rows at the places; those that stay open are moved to the front. `notes` and `blind`, the number of levels that are still
+// decided without a look at the rows, choose the decision and never an answer.
 pub fn look(
     table: &[u8],
     places: &mut [u16],
-    count: usize,
-    values: &[u8],
-    notes: &mut [u32],
+    values: &[Option<bool>],
+    notes: &mut Notes,
     blind: usize,
 ) -> Seen
-    requires { RowsAsked table.now places.old count (length values.now) × (length values.now < 65536) }
-    ensures { Looked table.now values.now count places.old places.new result }
+    requires { RowsAsked table.now places.old (length places.old) (length values.now) }
+    ensures { Looked table.now values.now places.old places.new result }
 {
-    let left = narrow_unless_blind(table, places, count, values, blind);
-    if count < left {
-        blame(values, notes, left - count);
-        return Seen::Fails;
-    }
+    let left = match narrow_unless_blind(table, places, values, blind) {
+        Ok(left) => left,
+        Err(failed) => {
+            notes.blame(values, failed.tested);
+            return Seen::Fails;
+        }
+    };
     if left == 0 {
         return Seen::Met;
     }
-    let choice = choose(table, places, left, values, notes, blind);
-    let variable = choice.variable;
-    let first = choice.first;
-    if variable < values.len() {
-        return Seen::Open(Decision {
-            variable,
-            first,
-            left,
-        });
+    if let Some(decision) = choose(table, &places[..left], values, notes, blind) {
+        return Seen::Open { decision, left };
     }
-    if left < narrow(table, places, left, values) {
-        return Seen::Fails;
+    match narrow(table, &mut places[..left], values) {
+        Ok(_) => Seen::Met,
+        Err(_) => Seen::Fails,
     }
-    Seen::Met
 }

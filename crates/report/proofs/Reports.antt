@@ -1,9 +1,5 @@
 -- What holds of every report's bytes: how they begin, how many they are, and that a reader finds in them what the report says.
-use Prim.Native.Nat.{ℕ, ◌+◌, ◌*◌}
-use mathlib.Core.Path.{◌≡◌, refl, ap, ◌∙◌}
-use mathlib.Core.List.{List, ◌++◌}
-use native.Mathlib.Omega.{arith}
-use lib.ListN.{length, drop}
+use Rattle.std.proofs.Common.{ℕ, ◌+◌, ◌*◌, ◌≡◌, refl, ap, ◌∙◌, List, ◌++◌, arith, length, drop}
 use Rattle.table.specs.Words.{u16_at, words}
 use Rattle.table.specs.Encoding.{u16, u32, record_of, encode_numbers}
 use Rattle.table.proofs.Sizes.{length_numbers, length-record}

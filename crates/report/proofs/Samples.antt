@@ -1,7 +1,5 @@
 -- Two reports of document 01's sample sheet, computed from their numbers.
-use mathlib.Core.Path.{◌≡◌, refl}
-use mathlib.Core.Bool.{true, false}
-use mathlib.Core.List.{[], ◌∷◌}
+use Rattle.std.proofs.Common.{◌≡◌, refl, true, false, [], ◌∷◌}
 use Rattle.preference.specs.Named.{named}
 use Rattle.table.specs.Encoding.{u16, u32, record_of, encode_numbers}
 use Rattle.report.specs.Report.{conflict_kind, report_body, report_bytes}

@@ -1,36 +1,58 @@
 -- Runs of stores, one after the other.
-use Prim.Native.Nat.{ℕ, suc, ◌+◌, ◌*◌, ◌%◌, ◌/◌}
-use mathlib.Core.Path.{◌≡◌, sym, ap, ◌∙◌}
-use mathlib.Core.List.{List, [], ◌∷◌, ◌++◌}
-use native.Mathlib.Omega.{arith}
-use native.Mathlib.Nat.{add-zero}
-use native.Mathlib.Numerals.{add-one}
-use lib.ListN.{length, set}
-use lib.Seq.{sets}
+use Rattle.std.proofs.Common.{ℕ, ◌+◌, ◌-◌, ◌*◌, ◌<◌, ◌≤◌, ◌%◌, ◌/◌, ◌^◌, ◌≡◌, refl, sym, ap, ◌∙◌, List, ◌++◌, length, take, drop, append_assoc, arith}
+use Rattle.std.specs.Int.{to_le_bytes, w16, w32}
+use Rattle.std.proofs.lemmas.List.Edits.{sets, sets-eq}
+use Rattle.std.proofs.lemmas.List.{drop-drop}
+use borrow.Rule.Slice.PartMut.{put_mid}
 use Rattle.table.specs.Encoding.{u16, u32}
 use Rattle.report.specs.Written.{head_bytes}
 
--- a run of stores that is cut in two
-pub sets-append : (l : List ℕ) (i : ℕ) (front back : List ℕ) → sets l i (front ++ back) ≡ sets (sets l i front) (i + length front) back
-sets-append l i [] back = rw add-zero
-sets-append l i (x ∷ front) back =
-    let e : suc i + length front ≡ i + suc (length front) = omega arith in
-    sets-append (set l i x) (suc i) front back ∙ ap (λ (n : ℕ). sets (sets (set l i x) (suc i) front) n back) e
+-- bytes copied into a part of a list are stored there
+pub stored_part :
+    (l bytes copied : List ℕ) (at : ℕ) →
+    at + length bytes ≤ length l →
+    copied ≡ bytes →
+    put_mid at (at + length bytes - at) l copied ≡ sets l at bytes
+stored_part l bytes copied at h e =
+    let n : length bytes ≡ at + length bytes - at = omega arith in
+    sym
+    (sets-eq bytes l at h
+    ∙ append_assoc (take at l) bytes (drop (at + length bytes) l)
+    ∙ ap (λ (x : List ℕ). take at l ++ x)
+    (ap (λ (x : List ℕ). x ++ drop (at + length bytes) l) (sym e)
+    ∙ ap (λ (x : List ℕ). copied ++ x) (sym (drop-drop (length bytes) at l) ∙ ap (λ (i : ℕ). drop i (drop at l)) n)))
 
--- two bytes stored are a u16
-pub two_bytes : (l : List ℕ) (at number : ℕ) → set (set l at (number % 256)) (at + 1) (number / 256) ≡ sets l at (u16 number)
+-- std's two bytes of a number are a u16
+pub u16_bytes : (number : ℕ) → number < 2 ^ 16 → to_le_bytes w16 number ≡ u16 number
 unfolding u16
-two_bytes l at number = rw add-one
+u16_bytes number h = let e : number / 256 % 256 ≡ number / 256 = omega arith in rw e
 
--- two halves stored are a u32
-pub two_halves :
-    (l first second : List ℕ) (at number : ℕ) →
-    first ≡ sets l at (u16 (number % 65536)) →
-    second ≡ sets first (at + 2) (u16 (number / 65536)) →
-    second ≡ sets l at (u32 number)
+-- and its four are a u32
+pub u32_bytes : (number : ℕ) → number < 2 ^ 32 → to_le_bytes w32 number ≡ u32 number
 unfolding u32 u16
-two_halves l first second at number e f =
-    rw (f, e) (sym (sets-append l at (u16 (number % 65536)) (u16 (number / 65536))))
+u32_bytes number h =
+    let first : number % 256 ≡ number % 65536 % 256 = omega arith in
+    let second : number / 256 % 256 ≡ number % 65536 / 256 = omega arith in
+    let third : number / 65536 % 256 ≡ number / 65536 % 256 = refl in
+    let fourth : number / 16777216 % 256 ≡ number / 65536 / 256 = omega arith in
+    cc
+
+-- so what stores std's bytes of a number stores the number
+pub stored_u16 :
+    (before : List ℕ) (at : ℕ) {after bytes : List ℕ} {number : ℕ} →
+    bytes ≡ to_le_bytes w16 number →
+    number < 2 ^ 16 →
+    after ≡ sets before at bytes →
+    after ≡ sets before at (u16 number)
+stored_u16 before at {number = number} b fits e = e ∙ ap (λ (x : List ℕ). sets before at x) (b ∙ u16_bytes number fits)
+
+pub stored_u32 :
+    (before : List ℕ) (at : ℕ) {after bytes : List ℕ} {number : ℕ} →
+    bytes ≡ to_le_bytes w32 number →
+    number < 2 ^ 32 →
+    after ≡ sets before at bytes →
+    after ≡ sets before at (u32 number)
+stored_u32 before at {number = number} b fits e = e ∙ ap (λ (x : List ℕ). sets before at x) (b ∙ u32_bytes number fits)
 
 -- the five numbers of the head, stored one after the other
 pub five_numbers :

@@ -1,10 +1,6 @@
 -- The head before the numbers: what stands in the part in the end.
-use Prim.Native.Nat.{ℕ, ◌+◌, ◌*◌, ◌≤◌}
-use mathlib.Core.Path.{◌≡◌, sym, ap, ◌∙◌}
-use mathlib.Core.List.{List, ◌++◌, append_assoc}
-use native.Mathlib.Omega.{arith}
-use lib.ListN.{length, drop, take}
-use lib.Seq.{sets, sets-eq, drop_at, length-take-le, length-sets}
+use Rattle.std.proofs.Common.{ℕ, ◌+◌, ◌*◌, ◌≤◌, ◌≡◌, sym, ap, ◌∙◌, List, ◌++◌, append_assoc, arith, length, drop, take, drop_at, length-take-le}
+use Rattle.std.proofs.Math.Seq.{sets, sets-eq, length-sets}
 use Rattle.preference.specs.Selection.{Selection}
 use Rattle.preference.specs.Named.{named}
 use Rattle.table.specs.Encoding.{encode_numbers}
@@ -28,7 +24,7 @@ from_place bytes l n h =
 pub whole :
     (kind status count k : ℕ) (order : List ℕ) (flags : Selection) (before between after : List ℕ) →
     12 + 2 * length order ≤ length before →
-    NumbersWritten 0 order flags before between k →
+    NumbersWritten order flags before between k →
     after ≡ sets between 0 (head_bytes kind status count k) →
     Written kind status count order flags before after (12 + 2 * k)
 whole kind status count k order flags before between after room w e =

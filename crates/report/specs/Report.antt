@@ -2,6 +2,8 @@
 use Rattle.std.specs.Prelude.{ℕ, ◌+◌, List, ◌++◌, length}
 use Rattle.table.specs.Words.{u16_at, u32_at, words}
 use Rattle.table.specs.Encoding.{u16, u32, record_of, encode_numbers}
+use Rattle.report.specs.declared.Kind.{Kind}
+use Rattle.report.specs.declared.Kind.TheVariants.{Conflict, Relaxation}
 
 -- kind 16 for a conflict, 17 for a relaxation
 abbrev pub conflict_kind : ℕ
@@ -9,6 +11,11 @@ conflict_kind = 16
 
 abbrev pub relaxation_kind : ℕ
 relaxation_kind = 17
+
+-- the number of a kind
+abbrev pub number_of : Kind → ℕ
+number_of Conflict = conflict_kind
+number_of Relaxation = relaxation_kind
 
 -- the body: u16 status, u32 count, u16 k, k request numbers
 unfoldable pub report_body : (status count : ℕ) (numbers : List ℕ) → List ℕ

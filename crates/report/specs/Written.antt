@@ -20,11 +20,11 @@ pub record Room (part order : List ℕ) (flags : Selection) : Type 0 where
 unfoldable pub head_bytes : (kind status count k : ℕ) → List ℕ
 head_bytes kind status count k = u16 (8 + 2 * k) ++ (u16 kind ++ (u16 status ++ (u32 count ++ u16 k)))
 
--- The numbers of a selection stand behind `stored` others, which stand behind a report's first 12 bytes; so many are stored now.
-pub record NumbersWritten (stored : ℕ) (order : List ℕ) (flags : Selection) (before after : List ℕ) (k : ℕ) : Type 0 where
-  pub counted : k ≡ stored + length (named order flags)
-  pub few : k ≤ stored + length order
-  pub bytes : after ≡ sets before (12 + 2 * stored) (encode_numbers (named order flags))
+-- The numbers of a selection stand behind a report's first 12 bytes; so many are stored.
+pub record NumbersWritten (order : List ℕ) (flags : Selection) (before after : List ℕ) (k : ℕ) : Type 0 where
+  pub counted : k ≡ length (named order flags)
+  pub few : k ≤ length order
+  pub bytes : after ≡ sets before 12 (encode_numbers (named order flags))
 
 -- The report of a selection stands at the part's start and ends at the place given back; the bytes after it are as they were.
 pub record Written (kind status count : ℕ) (order : List ℕ) (flags : Selection) (before after : List ℕ) (end : ℕ) : Type 0 where

@@ -1,56 +1,54 @@
 -- What an accepted table keeps: the scan is taken apart record by record, from the end of the table to its start.
-use Rattle.std.proofs.Common.{◌≡◌, ℕ, zero, suc, ◌+◌, ◌-◌, ◌*◌, ◌<◌, ◌≤◌, Bool, true, false, ltb, leb, List}
+use Rattle.std.proofs.Common.{◌≡◌, ℕ, zero, suc, ◌+◌, ◌-◌, ◌*◌, ◌<◌, ◌≤◌, Bool, true, false, ltb, leb, List, Ok, Err}
 use Rattle.std.proofs.Common.{length, sym, refl, ◌∙◌, subst, arith, ltb-false, ltb-true, eqb-true, leb-true}
 use Rattle.table.specs.declared.record.Phase.TheVariants.{Start, Rows, Ordered, Checked}
 use Rattle.table.specs.declared.record.Frame.{Frame}
 use Rattle.table.specs.declared.record.State.{State}
-use Rattle.table.specs.declared.record.Step.{Step}
-use Rattle.table.specs.declared.record.Step.TheVariants.{Next, Stop}
-use Rattle.table.specs.declared.reading.Reading.TheVariants.{Accepted}
 use Rattle.table.specs.Words.{u16_at}
 use Rattle.table.specs.Lists.{all_different}
 use Rattle.table.specs.Kinds.{Kind, Head, Clause, Linear, Order, Check, Unknown, is_head, is_row}
 use Rattle.table.specs.Rows.{kind_at, length_at, after, row_of, order_at}
 use Rattle.table.specs.Limits.{most_bytes, most_variables, most_requests, most_rows, order_in_range}
 use Rattle.table.specs.Tests.{head_first, in_sequence, room_for_row, length_right, in_range, no_repeat, adds_to_zero, next_phase, next_frame}
-use Rattle.table.specs.Reading.{in_phase, step_at, ending_of, scan, beginning, reading, refused_at}
+use Rattle.table.specs.Refusals.{Fault}
+use Rattle.table.specs.Reading.{Step, Reading, in_phase, step_at, ending_of, scan, beginning, reading, refused_at}
 use Rattle.table.specs.Kept.{first_row, RowKept, RowsKept, Kept}
 use Rattle.table.proofs.Steps.{Passed, next_passed, scan_ends, scan_goes_on, scan_stops, both}
 
 -- a refusal is no acceptance
-no_refusal : {X : Type 0} {number place : ℕ} {f : Frame} → refused_at number place ≡ Accepted f → X
-no_refusal e = let z : ◌≡◌ {A = ℕ} 0 1 = cc in absurd (omega arith)
+no_refusal : {X : Type 0} {fault : Fault} {place : ℕ} {f : Frame} → refused_at fault place ≡ Ok f → X
+no_refusal e = absurd cc
 
 -- an accepted table has one frame
-pub same_frame : {f g : Frame} → Accepted f ≡ Accepted g → f ≡ g
+pub same_frame : {f g : Frame} → ◌≡◌ {A = Reading} (Ok f) (Ok g) → f ≡ g
 same_frame e = cc
 
 -- true is not false
 pub clash : {X : Type 0} → false ≡ true → X
-clash e = let z : ◌≡◌ {A = ℕ} 0 1 = cc in absurd (omega arith)
+clash e = absurd cc
 
 -- the record at hand was passed, and the rest of the scan accepts
 pub record Goes (n : ℕ) (t : List ℕ) (at : ℕ) (s : State) (f : Frame) : Type 0 where
   pub next : State
   pub passed : Passed t at s next
-  pub rest : scan (n - 1) t (after t at) next ≡ Accepted f
+  pub rest : scan (n - 1) t (after t at) next ≡ Ok f
 
 pub goes :
     (n : ℕ) (t : List ℕ) (at : ℕ) (s : State) (f : Frame) →
     at < length t →
     length t ≤ n + at →
-    scan n t at s ≡ Accepted f →
+    scan n t at s ≡ Ok f →
     Goes n t at s f
 goes n t at s f h g e = by (step_at t at s) refl
   where
     by : (told : Step) → step_at t at s ≡ told → Goes n t at s f
-    by (Next next) q =
-        record { next = next; passed = next_passed t at s next q; rest = scan_goes_on n t at s h g next (length_at t at) refl q ∙ e }
-    by (Stop number) q = no_refusal (scan_stops n t at s h g number q ∙ e)
+    by (Ok next) q =
+        record { next = next; passed = next_passed t at s next q; rest = scan_goes_on n t at s h g next (after t at) refl q ∙ e }
+    by (Err fault) q = no_refusal (scan_stops n t at s h g fault q ∙ e)
 
 -- after CHECK the table ends, and the frame is the one so far
 module _ (t : List ℕ) (f : Frame) where
-  after_check : (n at : ℕ) (fr : Frame) → at ≤ length t → length t ≤ n + at → scan n t at (in_phase Checked fr) ≡ Accepted f → (at ≡ length t) × (fr ≡ f)
+  after_check : (n at : ℕ) (fr : Frame) → at ≤ length t → length t ≤ n + at → scan n t at (in_phase Checked fr) ≡ Ok f → (at ≡ length t) × (fr ≡ f)
   unfolding ending_of in_sequence
   after_check n at fr h g e = by (ltb at (length t)) refl
     where
@@ -101,7 +99,7 @@ module _ (t : List ℕ) (f : Frame) where
       at ≤ length t →
       length t ≤ n + at →
       at ≡ after t fr.order →
-      scan n t at (in_phase Ordered fr) ≡ Accepted f →
+      scan n t at (in_phase Ordered fr) ≡ Ok f →
       Ends t f × (fr ≡ f)
   unfolding ending_of
   after_order n at fr h g o e = by (ltb at (length t)) refl
@@ -166,7 +164,7 @@ module _ (t : List ℕ) (f : Frame) where
       at ≤ length t →
       length t ≤ n + at →
       fr.rows ≤ most_rows →
-      scan n t at (in_phase Rows fr) ≡ Accepted f →
+      scan n t at (in_phase Rows fr) ≡ Ok f →
       Rest t at fr f
 
   -- a row, and then the rest
@@ -292,20 +290,20 @@ module _ (t : List ℕ) (f : Frame) (short : length t ≤ most_bytes) where
       (rest_from t f (length t - 1) 8 headed (omega arith) (omega arith) (omega arith) (rw (state_after Head k p.passed, at8) at p.rest))
 
 -- an accepted table is not too long, and its scan accepts it
-pub scan_of_accepted : (t : List ℕ) (f : Frame) → reading t ≡ Accepted f → (length t ≤ most_bytes) × (scan (length t) t 0 beginning ≡ Accepted f)
+pub scan_of_accepted : (t : List ℕ) (f : Frame) → reading t ≡ Ok f → (length t ≤ most_bytes) × (scan (length t) t 0 beginning ≡ Ok f)
 unfolding reading
 scan_of_accepted t f e = long (ltb most_bytes (length t)) refl
   where
-    long : (over : Bool) → ltb most_bytes (length t) ≡ over → (length t ≤ most_bytes) × (scan (length t) t 0 beginning ≡ Accepted f)
+    long : (over : Bool) → ltb most_bytes (length t) ≡ over → (length t ≤ most_bytes) × (scan (length t) t 0 beginning ≡ Ok f)
     long true q = no_refusal (rw q at e)
     long false q = (ltb-false most_bytes (length t) q, rw q at e)
 
 -- an accepted table keeps its frame: HEAD, rows, ORDER and CHECK, whole and within their limits
-pub accepted_keeps : (t : List ℕ) (f : Frame) → reading t ≡ Accepted f → Kept t f
+pub accepted_keeps : (t : List ℕ) (f : Frame) → reading t ≡ Ok f → Kept t f
 unfolding ending_of
 accepted_keeps t f e = some_byte (ltb 0 (length t)) refl
   where
-    scanned : scan (length t) t 0 beginning ≡ Accepted f
+    scanned : scan (length t) t 0 beginning ≡ Ok f
     scanned = (scan_of_accepted t f e).1
 
     some_byte : (more : Bool) → ltb 0 (length t) ≡ more → Kept t f

@@ -1,7 +1,7 @@
 -- An accepted table of bytes is the encoding of what it says, and what it says is within the limits.
 use Rattle.std.proofs.Common.{◌≡◌, ℕ, ◌+◌, ◌/◌, ◌%◌, ◌^◌, List, ◌++◌, length, drop, sym, refl}
 use Rattle.std.proofs.Common.{ap, ◌∙◌, append_assoc, append-nil, arith, length-append, eqb-true}
-use lib.Seq.{drop-length}
+use Rattle.std.proofs.Math.Seq.{drop-length}
 use Rattle.table.specs.declared.record.Frame.{Frame}
 use Rattle.table.specs.Words.{u16_at, words, total}
 use Rattle.table.specs.Kinds.{Head, Order, Check, is_known}

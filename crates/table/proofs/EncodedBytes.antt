@@ -1,6 +1,6 @@
 -- The table of a model within the limits is a list of bytes: every number in it fits its place.
 use Rattle.std.proofs.Common.{◌≡◌, ℕ, ◌+◌, ◌/◌, ◌%◌, ◌<◌, ◌≤◌, List, [], ◌∷◌, ◌++◌, length, ℤ, arith, w32, of_z}
-use mir.Facts.{Fits-of_z}
+use Rattle.std.proofs.Math.Facts.{Fits-of_z}
 use Rattle.table.specs.Rows.{Term, Row, clause, linear}
 use Rattle.table.specs.Model.{Model, Each, IsI32, LiteralWithin, TermWithin, ClauseWithin, LinearWithin, RowWithin, IsRequest, WithinLimits}
 use Rattle.table.specs.Encoding.{IsByte, IsBytes, u16, u32, i32, record_of, encode_numbers, encode_term, encode_terms, encode_row}

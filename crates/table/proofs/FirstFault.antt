@@ -1,18 +1,19 @@
 -- The first fault of closed tables and records, computed.
 use Rattle.std.proofs.Common.{length, refl, lt-ltb}
 use Rattle.table.specs.Words.{u16_at, u32_at, i32_at, words, total}
-use Rattle.table.specs.Lists.{every, among, all_different}
+use Rattle.table.specs.Lists.{all_different}
 use Rattle.table.specs.Kinds.{kind_of, is_known, is_head}
 use Rattle.table.specs.Rows.{term_at, terms, clause_at, linear_at}
 use Rattle.table.specs.Limits.{within, term_in_range, row_in_range}
 use Rattle.table.specs.Tests.{is_whole, head_first, in_sequence, room_for_row, length_right, in_range, no_repeat, adds_to_zero, next_phase, next_frame}
-use Rattle.table.specs.Reading.{rule_of, step_at, ending_of, scan, reading}
+use Rattle.table.specs.Refusals.{number_of}
+use Rattle.table.specs.Reading.{rule_of, step_at, ending_of, scan, reading, number_of_reading, place_of_reading}
 use Rattle.table.specs.FirstFault.{FirstFaultIsTold, TooLongIsTold, LimitsAreTold, number_of_step}
 
 pub first_fault_is_told : FirstFaultIsTold
-unfolding u16_at u32_at i32_at words total every among all_different kind_of is_known is_head term_at terms clause_at linear_at within term_in_range
-    row_in_range is_whole head_first in_sequence room_for_row length_right in_range
-    no_repeat adds_to_zero next_phase next_frame rule_of step_at ending_of scan reading
+unfolding u16_at u32_at i32_at words total all_different kind_of is_known is_head term_at terms clause_at linear_at
+    within term_in_range row_in_range is_whole head_first in_sequence room_for_row length_right in_range no_repeat
+    adds_to_zero next_phase next_frame rule_of step_at ending_of scan reading number_of_reading place_of_reading number_of
 first_fault_is_told =
     record {
       empty = refl;
@@ -54,14 +55,13 @@ first_fault_is_told =
     }
 
 pub too_long_is_told : TooLongIsTold
-unfolding reading
-too_long_is_told t long = rw (lt-ltb 32768 (length t) long)
+unfolding reading number_of_reading place_of_reading number_of
+too_long_is_told t long = rw (lt-ltb 32768 (length t) long) refl
 
 pub limits_are_told : LimitsAreTold
-unfolding u16_at u32_at i32_at words total every among all_different kind_of
-    is_known is_head term_at terms clause_at linear_at within term_in_range row_in_range
-    is_whole head_first in_sequence room_for_row length_right in_range no_repeat
-    adds_to_zero next_phase next_frame rule_of step_at ending_of scan reading number_of_step
+unfolding u16_at u32_at i32_at words total all_different kind_of is_known is_head term_at terms clause_at linear_at within
+    term_in_range row_in_range is_whole head_first in_sequence room_for_row length_right in_range no_repeat adds_to_zero
+    next_phase next_frame rule_of step_at ending_of scan reading number_of_step number_of number_of_reading place_of_reading
 limits_are_told =
     record {
       v_20 = refl;

@@ -9,13 +9,15 @@
 --   CheckWord     the CHECK word: what makes the words add to zero, and that nothing else does
 --   WithRow       one row more; RecordsWritten, each record number by number; EncodedBytes, that it is bytes
 -- For the code's own proofs:
---   Runs          one turn of the loops over words and terms; Lengths, KindNumbers, the tests of rows and kinds
---   WaysOut       the ways out of a record's rule, by refusal number; Steps, one step of the reading; Bodies, the walk to a body
+--   Runs          runs of words and terms; Sums, the sum of words
+--   KindRules     the rule of each kind where it may stand; RowRule, the lengths of rows
+--   WaysOut       the ways out of a record's rule, by fault; Steps, one step of the reading; Bodies, the walk to a body
 -- What the two statements of the format rest on: Standing, Limited, RecordsRead, Written, NumbersStand, RecordsStand, Decoded.
 pub mod Runs
-pub mod Lengths
+pub mod Sums
+pub mod RowRule
+pub mod KindRules
 pub mod WaysOut
-pub mod KindNumbers
 pub mod Steps
 pub mod Accepted
 pub mod Bodies

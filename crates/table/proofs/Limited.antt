@@ -1,7 +1,7 @@
 -- The limits as plain statements are the limits that the tests decide, both ways.
 use Rattle.std.proofs.Common.{◌≡◌, ℕ, ◌+◌, ◌*◌, ◌<◌, ◌≤◌, Bool, true, false, not, ◌||◌, eqb, ltb, leb, List, [], ◌∷◌}
 use Rattle.std.proofs.Common.{◌++◌, length, ℤ, nat_abs, sym, refl, arith, ltb-true, lt-ltb, ne_eqb, le-leb, leb-true}
-use borrow.Author.Tests.{eqb-false, not-true}
+use Rattle.std.proofs.lemmas.Bool.{eqb-false, not-true}
 use Rattle.table.specs.Lists.{every, among, all_different}
 use Rattle.table.specs.Rows.{Term, Row, clause, linear}
 use Rattle.table.specs.Limits.{within, term_in_range, row_in_range, order_in_range}
@@ -24,12 +24,12 @@ each_map Holds Also so (x ∷ xs) each = (so x each.0, each_map Holds Also so xs
 module _ {A : Type 0} (test : A → Bool) (Holds : A → Type 0) where
   -- each element passes the test that its statement decides
   pub every_by : ((x : A) → Holds x → test x ≡ true) → (xs : List A) → Each Holds xs → every test xs ≡ true
-  unfolding Each every
+  unfolding Each
   every_by pass [] each = refl
   every_by pass (x ∷ xs) each = rw (pass x each.0, every_by pass xs each.1)
 
   pub each_by : ((x : A) → test x ≡ true → Holds x) → (xs : List A) → every test xs ≡ true → Each Holds xs
-  unfolding Each every
+  unfolding Each
   each_by passed [] e = tt
   each_by passed (x ∷ xs) e = let h = both (test x) (every test xs) e in (passed x h.0, each_by passed xs h.1)
 
@@ -102,7 +102,7 @@ order_passed n order e =
 
 -- a number that stands nowhere in a list
 not_among : (x : ℕ) (xs : List ℕ) → Each (OtherThan x) xs → among x xs ≡ false
-unfolding Each among
+unfolding Each
 not_among x [] each = refl
 not_among x (y ∷ ys) each = rw (ne_eqb x y each.0, not_among x ys each.1)
 
@@ -111,7 +111,7 @@ neither true b e = clash (sym e)
 neither false b e = (refl, e)
 
 among_not : (x : ℕ) (xs : List ℕ) → among x xs ≡ false → Each (OtherThan x) xs
-unfolding Each among
+unfolding Each
 among_not x [] e = tt
 among_not x (y ∷ ys) e = let h = neither (eqb x y) (among x ys) e in (eqb-false x y h.0, among_not x ys h.1)
 

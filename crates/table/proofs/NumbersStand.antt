@@ -1,7 +1,7 @@
 -- Bytes are the encoding of what is read from them: the other way round than proofs/Standing.antt.
 use Rattle.std.proofs.Common.{◌≡◌, ℕ, zero, suc, ◌+◌, ◌*◌, ◌/◌, ◌%◌, ◌<◌, ◌≤◌, List, [], ◌∷◌, ◌++◌, length, get_or}
 use Rattle.std.proofs.Common.{drop, ℤ, pos, negsuc, refl, ap, ◌∙◌, arith, drop-cons, w32, Fits, SFits, to_z}
-use mir.Facts.{of_z-to_z, sfits_to_z}
+use Rattle.std.proofs.Math.Facts.{of_z-to_z, sfits_to_z}
 use Rattle.table.specs.Words.{u16_at, u32_at, i32_at, words}
 use Rattle.table.specs.Rows.{term_at, terms}
 use Rattle.table.specs.Model.{Each, IsI32}

@@ -1,9 +1,8 @@
--- Accepted tables and models within the limits are the same thing: an accepted table is the encoding of exactly one model, its own decoded one, and the
+-- Ok tables and models within the limits are the same thing: an accepted table is the encoding of exactly one model, its own decoded one, and the
 -- table of a model is accepted and says that model.
-use Rattle.std.proofs.Common.{◌≡◌, ℕ, ◌≤◌, ◌↔◌, List, length, sym, refl, ap, ◌∙◌, arith}
+use Rattle.std.proofs.Common.{◌≡◌, ℕ, ◌≤◌, ◌↔◌, List, length, sym, refl, ap, ◌∙◌, Ok, Err}
 use Rattle.table.specs.declared.record.Frame.{Frame}
 use Rattle.table.specs.declared.refusals.Refusal.{Refusal}
-use Rattle.table.specs.declared.reading.Reading.TheVariants.{Accepted, Refused}
 use Rattle.table.specs.Reading.{reading}
 use Rattle.table.specs.Kept.{rows_of, order_of}
 use Rattle.table.specs.Model.{Model, WithinLimits}
@@ -14,10 +13,10 @@ use Rattle.table.proofs.Written.{encode_keeps, encode-says}
 use Rattle.table.proofs.Decoded.{kept_encodes, kept_within}
 
 -- a model within the limits, whose encoding is no longer than a table may be, encodes to an accepted table
-pub encode_accepted : (m : Model) → WithinLimits m → length (encode m) ≤ 32768 → reading (encode m) ≡ Accepted (frame_of m)
+pub encode_accepted : (m : Model) → WithinLimits m → length (encode m) ≤ 32768 → reading (encode m) ≡ Ok (frame_of m)
 encode_accepted m within short = keeps_accepted (encode m) (frame_of m) (encode_keeps m within short)
 
-module _ (m : Model) (within : WithinLimits m) (short : length (encode m) ≤ 32768) (f : Frame) (e : reading (encode m) ≡ Accepted f) where
+module _ (m : Model) (within : WithinLimits m) (short : length (encode m) ≤ 32768) (f : Frame) (e : reading (encode m) ≡ Ok f) where
   -- with whatever frame it is accepted, that frame is the model's
   pub encode_frame : f ≡ frame_of m
   encode_frame = same_frame (sym e ∙ encode_accepted m within short)
@@ -44,13 +43,13 @@ module _ (m : Model) (within : WithinLimits m) (short : length (encode m) ≤ 32
 
 -- a table that stands for a model is accepted, and says it
 module _ (t : List ℕ) (m : Model) (stands : StandsFor t m) where
-  pub stands_accepted : reading t ≡ Accepted (frame_of m)
+  pub stands_accepted : reading t ≡ Ok (frame_of m)
   stands_accepted = rw (← stands.encoded) (encode_accepted m stands.within (rw stands.encoded stands.short))
 
   pub stands_says : model_of t (frame_of m) ≡ m
   stands_says = rw (← stands.encoded) (encode-says m stands.within)
 
-module _ (t : List ℕ) (f : Frame) (accepted : reading t ≡ Accepted f) where
+module _ (t : List ℕ) (f : Frame) (accepted : reading t ≡ Ok f) where
   -- whatever model an accepted table stands for is the one decoded from it
   pub only_model : (m : Model) → StandsFor t m → m ≡ model_of t f
   only_model m stands = sym (rw (same_frame (sym (stands_accepted t m stands) ∙ accepted)) at (stands_says t m stands))
@@ -71,11 +70,9 @@ module _ (t : List ℕ) (f : Frame) (accepted : reading t ≡ Accepted f) where
     exactly_one_model = (model_of t f, accepted_stands, only_model)
 
 -- a refused table stands for no model
-pub refused_stands_for_none : (t : List ℕ) (r : Refusal) (m : Model) → reading t ≡ Refused r → StandsFor t m → ⊥
+pub refused_stands_for_none : (t : List ℕ) (r : Refusal) (m : Model) → reading t ≡ Err r → StandsFor t m → ⊥
 refused_stands_for_none t r m refused stands =
-    let accepted = stands_accepted t m stands in
-    let z : ◌≡◌ {A = ℕ} 0 1 = cc in
-    omega arith
+    let accepted = stands_accepted t m stands in cc
 
 -- no table means two models
 pub one_model : (t : List ℕ) (a b : Model) → StandsFor t a → StandsFor t b → a ≡ b
@@ -86,8 +83,8 @@ pub one_table :
     (t u : List ℕ) (f g : Frame) →
     IsBytes t →
     IsBytes u →
-    reading t ≡ Accepted f →
-    reading u ≡ Accepted g →
+    reading t ≡ Ok f →
+    reading u ≡ Ok g →
     model_of t f ≡ model_of u g →
     t ≡ u
 one_table t u f g t-bytes u-bytes t-accepted u-accepted same =
@@ -100,6 +97,6 @@ encode_once a b a-within b-within short same =
     (record { within = b-within; encoded = sym same; short = short })
 
 -- accepted tables and models are the same thing
-pub accepted_is_model : (t : List ℕ) → IsBytes t → ((f : Frame) × (reading t ≡ Accepted f)) ↔ ((m : Model) × StandsFor t m)
+pub accepted_is_model : (t : List ℕ) → IsBytes t → ((f : Frame) × (reading t ≡ Ok f)) ↔ ((m : Model) × StandsFor t m)
 accepted_is_model t bytes =
     (λ p. (model_of t p.0, accepted_stands t p.0 p.1 bytes), λ p. (frame_of p.0, stands_accepted t p.0 p.1))

@@ -9,7 +9,7 @@ use Rattle.table.specs.Tests.{length_right}
 use Rattle.table.specs.Kept.{RowKept, RowsKept}
 use Rattle.table.specs.Model.{Each, ClauseWithin, LinearWithin, RowWithin}
 use Rattle.table.specs.Encoding.{u16, i32, u32, record_of, encode_numbers, encode_terms, encode_row, encode_rows}
-use Rattle.table.proofs.Lengths.{clause_right, linear_right}
+use Rattle.table.proofs.RowRule.{clause_right, linear_right}
 use Rattle.table.proofs.Standing.{past, within_table, u16_read, past_u16, i32_read, past_i32, numbers_read, terms_read}
 use Rattle.table.proofs.Limited.{row_passes}
 use Rattle.table.proofs.Sizes.{length_numbers, length-terms, length-clause, length-linear}

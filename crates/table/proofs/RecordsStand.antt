@@ -1,6 +1,6 @@
 -- The records of an accepted table are the encodings of what is decoded from them, and what is decoded is within the limits.
 use Rattle.std.proofs.Common.{◌≡◌, ℕ, zero, suc, ◌+◌, ◌-◌, ◌/◌, ◌%◌, ◌≤◌, true, ◌&&◌, eqb, leb, List, ◌++◌}
-use Rattle.std.proofs.Common.{length, drop, sym, refl, ap, ◌∙◌, append_assoc, arith, eqb-true, leb-true}
+use Rattle.std.proofs.Common.{length, drop, sym, refl, ap, ◌∙◌, append_assoc, arith, eqb-true, leb-true, ◌<◌, ne_eqb}
 use Rattle.table.specs.Words.{u16_at, i32_at, words}
 use Rattle.table.specs.Kinds.{Kind, Head, Clause, Linear, Order, Check, Unknown, kind_of, is_known, is_row}
 use Rattle.table.specs.Rows.{Row, length_at, kind_at, after, row_at, row_of, clause_at, linear_at, rows, terms}
@@ -9,7 +9,6 @@ use Rattle.table.specs.Tests.{length_right}
 use Rattle.table.specs.Kept.{RowKept, RowsKept}
 use Rattle.table.specs.Model.{Each, RowWithin}
 use Rattle.table.specs.Encoding.{IsBytes, u16, u32, i32, record_of, encode_numbers, encode_terms, encode_row, encode_rows}
-use Rattle.table.proofs.KindNumbers.{above_five}
 use Rattle.table.proofs.Steps.{both}
 use Rattle.table.proofs.Accepted.{clash}
 use Rattle.table.proofs.Limited.{clause_passed, linear_passed}
@@ -24,6 +23,12 @@ number_of_kind Linear = 3
 number_of_kind Order = 4
 number_of_kind Check = 5
 number_of_kind Unknown = 0
+
+-- kind numbers from 6 on are unknown
+above_five : (n : ℕ) → 5 < n → kind_of n ≡ Unknown
+unfolding kind_of
+above_five n h =
+    rw (ne_eqb n 1 (omega arith), ne_eqb n 2 (omega arith), ne_eqb n 3 (omega arith), ne_eqb n 4 (omega arith), ne_eqb n 5 (omega arith))
 
 known_number : (n : ℕ) → is_known (kind_of n) ≡ true → n ≡ number_of_kind (kind_of n)
 unfolding kind_of is_known

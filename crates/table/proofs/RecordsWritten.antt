@@ -1,6 +1,6 @@
 -- Each record number by number, with L as document 01 gives it for its kind: what a writer writes one number after another.
 use Rattle.std.proofs.Common.{◌≡◌, ℕ, ◌+◌, ◌*◌, ◌/◌, ◌%◌, ◌<◌, List, [], ◌∷◌, ◌++◌, length, ℤ, refl, ap, ◌∙◌, mod-eq_of_lt, arith}
-use native.Mathlib.Nat.{add-mul-mod_self_left, add-mul-div_left, div-div-eq-div-mul}
+use Rattle.std.proofs.Math.Nat.{add-mul-mod_self_left, add-mul-div_left, div-div-eq-div-mul}
 use Rattle.table.specs.Rows.{Term, clause, linear}
 use Rattle.table.specs.Encoding.{u16, u32, i32, record_of, encode_numbers, encode_terms, encode_row, encode_head, encode_order, check_word, encode_check}
 use Rattle.table.proofs.Sizes.{length_numbers, length-terms}

@@ -1,162 +1,74 @@
--- One turn of the loops that go through a run of words or terms: what the definitions of specs/ say where the run has one element less.
-use Rattle.std.proofs.Common.{◌≡◌, ℕ, zero, suc, ◌+◌, ◌-◌, ◌%◌, ◌^◌, ◌<◌, ◌≤◌, Bool, true, false, ltb, leb, List, [], ◌∷◌, nat_abs}
-use Rattle.std.proofs.Common.{refl, ap, ◌∙◌, add-zero, mod-eq_of_lt, arith, w32, to_z, le-ltb, lt-ltb, eq-eqb, ne_eqb, le-leb}
-use mathlib.Core.Bool.{and-false}
-use native.Mathlib.Nat.{mod-add-mod}
-use borrow.Author.Tests.{lt-leb}
-use Rattle.table.specs.Words.{u16_at, u32_at, i32_at, words, total}
-use Rattle.table.specs.Lists.{every, among, all_different}
-use Rattle.table.specs.Rows.{term_at, terms}
-use Rattle.table.specs.Limits.{within, term_in_range, most_weight}
+-- A run of words or terms in the table's bytes, as the parts of two or six bytes that the code reads it by.
+use Rattle.std.proofs.Common.{◌≡◌, ℕ, zero, suc, ◌+◌, ◌-◌, ◌*◌, ◌/◌, ◌<◌, ◌≤◌, List, [], ◌∷◌, length, take, drop, get_or, map, refl, ap, ◌∙◌, add-zero, arith}
+use Rattle.std.proofs.lemmas.List.{get_or-take, get_or-drop, length-take-le, length-drop}
+use Rattle.std.specs.List.{slice_range}
+use Rattle.std.specs.Simd.{first_chunks}
+use Rattle.table.specs.Words.{u16_at, u32_at, i32_at, word_in, words}
+use Rattle.table.specs.Rows.{term_at, term_in, terms}
 
--- a run that is not empty is its first word and the rest
+-- the first n bytes of s are those of t from a place on
+abbrev pub Same : List ℕ → ℕ → List ℕ → ℕ → Type 0
+Same s n t at = (i : ℕ) → i < n → get_or s i 0 ≡ get_or t (at + i) 0
+
+-- a run over the parts of p bytes, said by what one part more adds
+module _ {X : Type 0} (p : ℕ) (t : List ℕ) (read : List ℕ → X) (run : ℕ → ℕ → List X)
+    (none : (at : ℕ) → [] ≡ run zero at)
+    (one_more : (k at : ℕ) (part : List ℕ) → Same part p t at → read part ∷ run k (at + p) ≡ run (suc k) at) where
+  run_of : (k : ℕ) (s : List ℕ) (at : ℕ) → Same s (p * k) t at → map read (first_chunks p k s) ≡ run k at
+  run_of zero s at same = none at
+  run_of (suc k) s at same =
+      let first : Same (take p s) p t at = λ i h. get_or-take p s i 0 h ∙ same i (omega arith) in
+      let later : Same (drop p s) (p * k) t (at + p) =
+      λ i h. let e : at + (p + i) ≡ at + p + i = omega arith in get_or-drop p s i 0 ∙ same (p + i) (omega arith) ∙ ap (λ (j : ℕ). get_or t j 0) e in
+      ap (λ (xs : List X). read (take p s) ∷ xs) (run_of k (drop p s) (at + p) later) ∙ one_more k at (take p s) first
+
+  -- the run that stands in the table from a place on
+  run_from : (k from n : ℕ) → from + p * k ≤ length t → n ≡ k → map read (first_chunks p n (slice_range t from (from + p * k))) ≡ run k from
+  run_from k from n h e =
+      let stands : Same (slice_range t from (from + p * k)) (p * k) t from =
+      λ i g. get_or-take (from + p * k - from) (drop from t) i 0 (omega arith) ∙ get_or-drop from t i 0 in
+      rw e (run_of k (slice_range t from (from + p * k)) from stands)
+
+-- a run of words by its first and the rest
 pub words_turn : (k : ℕ) (t : List ℕ) (i : ℕ) → 0 < k → words k t i ≡ u16_at t i ∷ words (k - 1) t (i + 2)
 unfolding words
 words_turn zero t i h = absurd (omega arith)
 words_turn (suc k) t i h = let e : k ≡ suc k - 1 = omega arith in ap (λ (n : ℕ). u16_at t i ∷ words n t (i + 2)) e
 
-pub terms_turn : (k : ℕ) (t : List ℕ) (i : ℕ) → 0 < k → terms k t i ≡ term_at t i ∷ terms (k - 1) t (i + 6)
-unfolding terms
-terms_turn zero t i h = absurd (omega arith)
-terms_turn (suc k) t i h = let e : k ≡ suc k - 1 = omega arith in ap (λ (n : ℕ). term_at t i ∷ terms n t (i + 6)) e
+-- the bytes of a slice of the table
+slice_length : (t : List ℕ) (from n : ℕ) → from + n ≤ length t → length (slice_range t from (from + n)) ≡ n
+slice_length t from n h = let g = length-drop from t in length-take-le (from + n - from) (drop from t) (omega (arith, g)) ∙ omega arith
 
-module _ {A : Type 0} (test : A → Bool) where
-  -- one element that fails decides
-  pub every_fails : (x : A) (xs : List A) → test x ≡ false → every test (x ∷ xs) ≡ false
-  unfolding every
-  every_fails x xs e = rw e
+module _ (t : List ℕ) (from k : ℕ) where
+  -- the words of the parts of two bytes
+  pub words_from :
+      from + 2 * k ≤ length t →
+      map word_in (first_chunks 2 (length (slice_range t from (from + 2 * k)) / 2) (slice_range t from (from + 2 * k))) ≡ words k t from
+  unfolding words u16_at
+  words_from h =
+      run_from 2 t word_in (λ n at. words n t at) (λ at. refl)
+      (λ n at part same. let a = same 0 (omega arith) in let b = same 1 (omega arith) in rw (a, b, add-zero)) k from _ h
+      (omega (arith, slice_length t from (2 * k) h))
 
-  -- one that passes leaves the rest to decide
-  pub every_passes : (x : A) (xs : List A) → test x ≡ true → every test (x ∷ xs) ≡ every test xs
-  unfolding every
-  every_passes x xs e = rw e
-
-module _ (t : List ℕ) (at left low high : ℕ) (more : 0 < left) where
-  -- the word at hand lies below the range
-  pub word_below : u16_at t at < low → every (within low high) (words left t at) ≡ false
-  unfolding within
-  word_below h = rw (words_turn left t at more) (every_fails (within low high) _ _ (rw (lt-leb low (u16_at t at) h)))
-
-  -- it lies above the range
-  pub word_above : high ≤ u16_at t at → every (within low high) (words left t at) ≡ false
-  unfolding within
-  word_above h = rw (words_turn left t at more) (every_fails (within low high) _ _ (rw (le-ltb (u16_at t at) high h) (and-false (leb low (u16_at t at)))))
-
-  -- it lies within
-  pub word_within :
-      low ≤ u16_at t at → u16_at t at < high → every (within low high) (words left t at) ≡ every (within low high) (words (left - 1) t (at + 2))
-  unfolding within
-  word_within h g =
-      rw (words_turn left t at more) (every_passes (within low high) _ _ (rw (le-leb low (u16_at t at) h, lt-ltb (u16_at t at) high g)))
-
-module _ (t : List ℕ) (at left variables : ℕ) (more : 0 < left) where
-  -- the term at hand names no variable
-  pub term_variable_out : variables ≤ u16_at t at → every (term_in_range variables) (terms left t at) ≡ false
-  unfolding term_in_range term_at
-  term_variable_out h =
-      rw (terms_turn left t at more) (every_fails (term_in_range variables) _ _ (rw (le-ltb (u16_at t at) variables h)))
-
-  -- its weight is too far from 0
-  pub term_weight_out :
-      (bits size : ℕ) →
-      bits ≡ u32_at t (at + 2) →
-      size ≡ nat_abs (to_z w32 bits) →
-      most_weight < size →
-      every (term_in_range variables) (terms left t at) ≡ false
-  unfolding term_in_range term_at i32_at
-  term_weight_out bits size e f h =
-      rw (terms_turn left t at more)
-      (every_fails (term_in_range variables) _ _ (rw (← e, ← f, lt-leb size most_weight h) (and-false (ltb (u16_at t at) variables))))
-
-  -- both are in range
-  pub term_within :
-      (bits size : ℕ) →
-      bits ≡ u32_at t (at + 2) →
-      size ≡ nat_abs (to_z w32 bits) →
-      u16_at t at < variables →
-      size ≤ most_weight →
-      every (term_in_range variables) (terms left t at) ≡ every (term_in_range variables) (terms (left - 1) t (at + 6))
-  unfolding term_in_range term_at i32_at
-  term_within bits size e f h g =
-      rw (terms_turn left t at more)
-      (every_passes (term_in_range variables) _ _ (rw (lt-ltb (u16_at t at) variables h, ← e, ← f, le-leb size most_weight g)))
-
-module _ (t : List ℕ) (at left wanted : ℕ) (more : 0 < left) where
-  -- the word at hand is the wanted one
-  pub among_here : wanted ≡ u16_at t at → among wanted (words left t at) ≡ true
-  unfolding among
-  among_here h = rw (words_turn left t at more) (rw (eq-eqb wanted (u16_at t at) h))
-
-  -- it is another
-  pub among_later : (wanted ≡ u16_at t at → ⊥) → among wanted (words left t at) ≡ among wanted (words (left - 1) t (at + 2))
-  unfolding among
-  among_later h = rw (words_turn left t at more) (rw (ne_eqb wanted (u16_at t at) h))
-
-module _ (t : List ℕ) (at left : ℕ) (more : 0 < left) where
-  -- the word at hand stands again later
-  pub repeated :
-      (again : Bool) (w : ℕ) → w ≡ u16_at t at → again ≡ among w (words (left - 1) t (at + 2)) → again ≡ true → all_different (words left t at) ≡ false
-  unfolding all_different
-  repeated again w e f h = rw (words_turn left t at more) (rw (← e, ← f, h))
-
-  -- it does not
-  pub different_so_far :
-      (again : Bool) (w : ℕ) →
-      w ≡ u16_at t at →
-      again ≡ among w (words (left - 1) t (at + 2)) →
-      again ≡ false →
-      all_different (words left t at) ≡ all_different (words (left - 1) t (at + 2))
-  unfolding all_different
-  different_so_far again w e f h = rw (words_turn left t at more) (rw (← e, ← f, h))
-
-  -- one word moves from the rest to the sum, and the carry is thrown away
-  pub sum_turn :
-      (sum w next : ℕ) →
-      w ≡ u16_at t at →
-      next ≡ (sum + w) % 2 ^ 16 →
-      (next + total (words (left - 1) t (at + 2))) % 2 ^ 16 ≡ (sum + total (words left t at)) % 2 ^ 16
-  unfolding total
-  sum_turn sum w next e f =
-      rw (words_turn left t at more, f, e)
-      (mod-add-mod (sum + u16_at t at) (2 ^ 16) (total (words (left - 1) t (at + 2)))
-      ∙ ap (λ (n : ℕ). n % 2 ^ 16) (omega arith))
-
--- how far an i32 lies from 0, by its bits: below 2^31 they are the number
-pub magnitude_low : (n : ℕ) → n < 2147483648 → n ≡ nat_abs (to_z w32 n)
-magnitude_low n h = rw (lt-ltb n 2147483648 h)
-
--- from 2^31 on it is negative
-pub magnitude_high : (n : ℕ) → 2147483648 ≤ n → n < 4294967296 → 4294967296 - n ≡ nat_abs (to_z w32 n)
-magnitude_high n h g = rw (le-ltb n 2147483648 h) (omega arith)
-
--- where no turn is left: no word, no term
-no_words : (k : ℕ) (t : List ℕ) (i : ℕ) → k ≤ 0 → words k t i ≡ []
-unfolding words
-no_words zero t i h = refl
-no_words (suc k) t i h = absurd (omega arith)
-
-no_terms : (k : ℕ) (t : List ℕ) (i : ℕ) → k ≤ 0 → terms k t i ≡ []
-unfolding terms
-no_terms zero t i h = refl
-no_terms (suc k) t i h = absurd (omega arith)
-
-module _ (t : List ℕ) (at left : ℕ) where
-  pub no_word : (low high : ℕ) → left ≤ 0 → every (within low high) (words left t at) ≡ true
-  unfolding every
-  no_word low high h = rw (no_words left t at h)
-
-  pub no_term : (variables : ℕ) → left ≤ 0 → every (term_in_range variables) (terms left t at) ≡ true
-  unfolding every
-  no_term variables h = rw (no_terms left t at h)
-
-  pub among_none : (wanted : ℕ) → left ≤ 0 → among wanted (words left t at) ≡ false
-  unfolding among
-  among_none wanted h = rw (no_words left t at h)
-
-  pub none_different : left ≤ 0 → all_different (words left t at) ≡ true
-  unfolding all_different
-  none_different h = rw (no_words left t at h)
-
-  pub empty_sum : (sum : ℕ) → left ≤ 0 → sum < 65536 → (sum + total (words left t at)) % 2 ^ 16 ≡ sum
-  unfolding total
-  empty_sum sum h g = rw (no_words left t at h) (rw add-zero (mod-eq_of_lt g))
+  -- the terms of the parts of six bytes
+  pub terms_from :
+      from + 6 * k ≤ length t →
+      map term_in (first_chunks 6 (length (slice_range t from (from + 6 * k)) / 6) (slice_range t from (from + 6 * k))) ≡ terms k t from
+  unfolding terms term_at i32_at u32_at u16_at
+  terms_from h =
+      run_from 6 t term_in (λ n at. terms n t at) (λ at. refl) (λ n at part same.
+      let three : at + 3 ≡ at + 2 + 1 = omega arith in
+      let four : at + 4 ≡ at + 2 + 2 = omega arith in
+      let five : at + 5 ≡ at + 2 + 2 + 1 = omega arith in
+      rw (
+        same 0 (omega arith),
+        same 1 (omega arith),
+        same 2 (omega arith),
+        same 3 (omega arith),
+        same 4 (omega arith),
+        same 5 (omega arith),
+        add-zero,
+        three,
+        four,
+        five,
+      )) k from _ h (omega (arith, slice_length t from (6 * k) h))

@@ -1,12 +1,10 @@
 -- A table that keeps a frame is accepted with it: the other way round than proofs/Accepted.antt, so the two say that what an accepted table keeps is all
 -- that the tests ask.
-use Rattle.std.proofs.Common.{◌≡◌, ℕ, zero, suc, ◌+◌, ◌-◌, ◌*◌, ◌<◌, ◌≤◌, true, List, length, sym}
+use Rattle.std.proofs.Common.{◌≡◌, ℕ, zero, suc, ◌+◌, ◌-◌, ◌*◌, ◌<◌, ◌≤◌, true, List, length, sym, Ok}
 use Rattle.std.proofs.Common.{refl, ◌∙◌, add-zero, zero-add, arith, le-ltb, lt-ltb, eq-eqb, le-leb}
 use Rattle.table.specs.declared.record.Phase.{Phase}
 use Rattle.table.specs.declared.record.Phase.TheVariants.{Start, Rows, Ordered, Checked}
 use Rattle.table.specs.declared.record.Frame.{Frame}
-use Rattle.table.specs.declared.record.Step.TheVariants.{Next}
-use Rattle.table.specs.declared.reading.Reading.TheVariants.{Accepted}
 use Rattle.table.specs.Words.{u16_at}
 use Rattle.table.specs.Kinds.{Kind, Head, Clause, Linear, Order, Check, Unknown, is_known, is_head, is_row}
 use Rattle.table.specs.Rows.{kind_at, length_at, after, row_of}
@@ -38,13 +36,13 @@ goes_past :
     scan n t at (in_phase phase f) ≡ scan (n - 1) t (after t at) (in_phase (next_phase kind) (next_frame kind t at f))
 goes_past n t at phase f kind g whole k p =
     let next = in_phase (next_phase kind) (next_frame kind t at f) in
-    let rule : Next next ≡ rule_of (kind_at t at) t at (in_phase phase f) =
+    let rule : Ok next ≡ rule_of (kind_at t at) t at (in_phase phase f) =
     rw k
     (passes_all kind t at phase f p.known p.head_is_first p.is_in_sequence p.room p.right p.is_in_range p.repeats_none p.adds)
     in
     sym
-    (scan_goes_on n t at (in_phase phase f) (omega arith) g next (length_at t at) refl
-    (sym (whole_step t at (in_phase phase f) phase refl whole (Next next) rule)))
+    (scan_goes_on n t at (in_phase phase f) (omega arith) g next (after t at) refl
+    (sym (whole_step t at (in_phase phase f) phase refl whole (Ok next) rule)))
 
 -- the frame after k rows
 abbrev after_rows : Frame → ℕ → Frame
@@ -106,7 +104,7 @@ module _ (t : List ℕ) (f : Frame) where
       (later.0, later.1, past_row (kind_at t at) n at k g refl (omega arith) kept.0 ∙ rw same at later.2)
 
   -- ORDER, CHECK and the end
-  past_order : (n : ℕ) → length t ≤ n + f.order → Kept t f → scan n t f.order (in_phase Rows (after_rows f f.rows)) ≡ Accepted f
+  past_order : (n : ℕ) → length t ≤ n + f.order → Kept t f → scan n t f.order (in_phase Rows (after_rows f f.rows)) ≡ Ok f
   unfolding is_known is_head head_first in_sequence room_for_row length_right in_range no_repeat adds_to_zero next_phase next_frame ending_of
   past_order n g kept =
       let order-length = kept.order.1 in
@@ -137,7 +135,7 @@ module _ (t : List ℕ) (f : Frame) where
       ∙ scan_ends (n - 1 - 1) t (after t (after t f.order)) (in_phase Checked f) (omega arith)
 
   -- HEAD, then all of it
-  scanned : Kept t f → scan (length t) t 0 beginning ≡ Accepted f
+  scanned : Kept t f → scan (length t) t 0 beginning ≡ Ok f
   unfolding is_known is_head head_first in_sequence room_for_row length_right in_range no_repeat adds_to_zero next_phase next_frame
   scanned kept =
       let head_length = kept.head.1 in
@@ -148,7 +146,7 @@ module _ (t : List ℕ) (f : Frame) where
       let few-r = kept.few_requests in
       let at8 : after t 0 ≡ 8 = omega arith in
       let rows = past_rows f.rows (length t - 1) 8 0 f.order (omega arith) (omega (arith, kept.few_rows)) kept.rows_kept in
-      let rest : scan (length t - 1) t 8 (in_phase Rows (after_rows f 0)) ≡ Accepted f = rw zero-add at rows.2 ∙ past_order rows.0 rows.1 kept in
+      let rest : scan (length t - 1) t 8 (in_phase Rows (after_rows f 0)) ≡ Ok f = rw zero-add at rows.2 ∙ past_order rows.0 rows.1 kept in
       goes_past (length t) t 0 Start beginning.frame Head (omega arith) (omega arith) kept.head.0
       (record {
         known = refl;
@@ -163,6 +161,6 @@ module _ (t : List ℕ) (f : Frame) where
       ∙ rw (at8, ← v, ← r) rest
 
 -- what keeps a frame is accepted with it
-pub keeps_accepted : (t : List ℕ) (f : Frame) → Kept t f → reading t ≡ Accepted f
+pub keeps_accepted : (t : List ℕ) (f : Frame) → Kept t f → reading t ≡ Ok f
 unfolding reading
 keeps_accepted t f kept = rw (le-ltb 32768 (length t) kept.short) (scanned t f kept)

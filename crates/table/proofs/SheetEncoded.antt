@@ -1,8 +1,7 @@
 -- The sample sheet's tables are the encodings of its models, by computation, and each is accepted with its model's frame.
-use Rattle.std.proofs.Common.{◌≡◌, ℕ, ◌<◌, map, refl, arith}
-use Rattle.table.specs.declared.reading.Reading.TheVariants.{Accepted}
+use Rattle.std.proofs.Common.{◌≡◌, ℕ, ◌<◌, map, refl, arith, Ok}
 use Rattle.table.specs.Words.{u16_at, u32_at, i32_at, words, total}
-use Rattle.table.specs.Lists.{every, among, all_different}
+use Rattle.table.specs.Lists.{all_different}
 use Rattle.table.specs.Kinds.{kind_of, is_known, is_head}
 use Rattle.table.specs.Rows.{term_at, terms, clause_at, linear_at, row_of, rows}
 use Rattle.table.specs.Limits.{within, term_in_range, row_in_range}
@@ -26,9 +25,9 @@ unfolding u16 u32 i32 record_of encode_numbers encode_term encode_terms encode_r
 sheet_encoded = refl
 
 -- all of them are accepted
-pub sheet_accepted : map reading sheet_tables ≡ map (λ (m : Model). Accepted (frame_of m)) sheet_models
-unfolding u16_at u32_at i32_at words total every among all_different kind_of is_known is_head term_at terms clause_at linear_at row_of rows
-    within term_in_range row_in_range is_whole head_first in_sequence room_for_row length_right in_range no_repeat adds_to_zero next_phase next_frame
+pub sheet_accepted : map reading sheet_tables ≡ map (λ (m : Model). Ok (frame_of m)) sheet_models
+unfolding u16_at u32_at i32_at words total all_different kind_of is_known is_head term_at terms clause_at linear_at row_of rows within
+    term_in_range row_in_range is_whole head_first in_sequence room_for_row length_right in_range no_repeat adds_to_zero next_phase next_frame
     rule_of step_at ending_of scan reading u16 u32 i32 record_of encode_numbers encode_term encode_terms encode_row encode_rows frame_of
 sheet_accepted = refl
 

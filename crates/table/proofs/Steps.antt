@@ -1,31 +1,19 @@
 -- One step of the reading and one turn of its scan: what the definitions of specs/Reading.antt say where a record has been tested.
-use Rattle.std.proofs.Common.{◌≡◌, ℕ, zero, suc, ◌+◌, ◌-◌, ◌<◌, ◌≤◌, Bool, true, false, ◌&&◌, leb, List, length, refl, arith, le-ltb, lt-ltb, le-leb, leb-true}
-use mathlib.Core.Bool.{and-false}
-use borrow.Author.Tests.{lt-leb}
+use Rattle.std.proofs.Common.{◌≡◌, ℕ, zero, suc, ◌+◌, ◌-◌, ◌<◌, ◌≤◌, Bool, true, false, ◌&&◌, leb}
+use Rattle.std.proofs.Common.{List, length, refl, arith, le-ltb, lt-ltb, le-leb, leb-true, Ok, Err}
+use Rattle.std.proofs.lemmas.Bool.{and_parts}
 use Rattle.table.specs.declared.record.Phase.{Phase}
 use Rattle.table.specs.declared.record.Frame.{Frame}
 use Rattle.table.specs.declared.record.State.{State}
-use Rattle.table.specs.declared.record.Step.{Step}
-use Rattle.table.specs.declared.record.Step.TheVariants.{Next, Stop}
 use Rattle.table.specs.Words.{u16_at}
 use Rattle.table.specs.Kinds.{Kind, Head, Clause, Linear, Order, Check, Unknown, is_known}
 use Rattle.table.specs.Limits.{most_variables, most_requests}
 use Rattle.table.specs.Rows.{kind_at, length_at, after}
-use Rattle.table.specs.Refusals.{cut, no_head, unknown_kind, wrong_length, out_of_range, out_of_sequence, named_twice, not_zero, too_many_rows}
+use Rattle.table.specs.Refusals.{Fault, Cut, NoHead, UnknownKind, WrongLength, OutOfRange, OutOfSequence, NamedTwice, NotZero, TooManyRows}
 use Rattle.table.specs.Tests.{is_whole, head_first, in_sequence, room_for_row, length_right, in_range, no_repeat, adds_to_zero, next_phase, next_frame}
-use Rattle.table.specs.Reading.{refuse_unless, rule_of, in_phase, step_at, refused_at, ending_of, follow, scan}
+use Rattle.table.specs.Reading.{Step, refuse_unless, rule_of, in_phase, step_at, refused_at, ending_of, follow, scan}
 
 module _ (t : List ℕ) (at : ℕ) (s : State) where
-  -- fewer than four bytes are left
-  pub cut_head : length t < at + 4 → Stop cut ≡ step_at t at s
-  unfolding step_at is_whole
-  cut_head h = rw (lt-leb (at + 4) (length t) h)
-
-  -- the body passes the end
-  pub cut_body : length t < after t at → Stop cut ≡ step_at t at s
-  unfolding step_at is_whole
-  cut_body h = rw (lt-leb (after t at) (length t) h, and-false (leb (at + 4) (length t)))
-
   -- a whole record: its kind's rule in its phase decides
   pub whole_step :
       (phase : Phase) →
@@ -38,14 +26,13 @@ module _ (t : List ℕ) (at : ℕ) (s : State) where
   whole_step phase e h told f = rw (le-leb (at + 4) (length t) (omega arith), le-leb (after t at) (length t) h, e) f
 
 -- a test of the chain that led to a next state was passed
-on : (test : Bool) (number : ℕ) (rest : Step) {next : State} → refuse_unless test number rest ≡ Next next → (test ≡ true) × (rest ≡ Next next)
-on true number rest e = (refl, e)
-on false number rest e = let z : ◌≡◌ {A = ℕ} 0 1 = cc in absurd (omega arith)
+on : (test : Bool) (fault : Fault) (rest : Step) {next : State} → refuse_unless test fault rest ≡ Ok next → (test ≡ true) × (rest ≡ Ok next)
+on true fault rest e = (refl, e)
+on false fault rest e = absurd cc
 
 -- both of two tests were passed
 pub both : (a b : Bool) → (a && b) ≡ true → (a ≡ true) × (b ≡ true)
-both true b e = (refl, e)
-both false b e = let z : ◌≡◌ {A = ℕ} 0 1 = cc in absurd (omega arith)
+both a b e = and_parts a b e
 
 -- what is known of a record that the reading went past: it passed every test, and this is the state after it
 pub record Passed (t : List ℕ) (at : ℕ) (s next : State) : Type 0 where
@@ -60,21 +47,21 @@ pub record Passed (t : List ℕ) (at : ℕ) (s next : State) : Type 0 where
   pub adds : adds_to_zero (kind_at t at) t at ≡ true
   pub state : in_phase (next_phase (kind_at t at)) (next_frame (kind_at t at) t at s.frame) ≡ next
 
-same_next : {a b : State} → Next a ≡ Next b → a ≡ b
+same_next : {a b : State} → ◌≡◌ {A = Step} (Ok a) (Ok b) → a ≡ b
 same_next e = cc
 
-pub next_passed : (t : List ℕ) (at : ℕ) (s next : State) → step_at t at s ≡ Next next → Passed t at s next
+pub next_passed : (t : List ℕ) (at : ℕ) (s next : State) → step_at t at s ≡ Ok next → Passed t at s next
 unfolding step_at is_whole rule_of
 next_passed t at s next e =
-    let h2 = on (is_whole t at) cut _ e in
-    let h4 = on (is_known (kind_at t at)) unknown_kind _ h2.1 in
-    let h3 = on (head_first s.phase (kind_at t at)) no_head _ h4.1 in
-    let h7 = on (in_sequence s.phase (kind_at t at)) out_of_sequence _ h3.1 in
-    let h10 = on (room_for_row (kind_at t at) s.frame.rows) too_many_rows _ h7.1 in
-    let h5 = on (length_right (kind_at t at) s.frame.requests (length_at t at)) wrong_length _ h10.1 in
-    let h6 = on (in_range (kind_at t at) t at s.frame) out_of_range _ h5.1 in
-    let h8 = on (no_repeat (kind_at t at) t at s.frame) named_twice _ h6.1 in
-    let h9 = on (adds_to_zero (kind_at t at) t at) not_zero _ h8.1 in
+    let h2 = on (is_whole t at) Cut _ e in
+    let h4 = on (is_known (kind_at t at)) UnknownKind _ h2.1 in
+    let h3 = on (head_first s.phase (kind_at t at)) NoHead _ h4.1 in
+    let h7 = on (in_sequence s.phase (kind_at t at)) OutOfSequence _ h3.1 in
+    let h10 = on (room_for_row (kind_at t at) s.frame.rows) TooManyRows _ h7.1 in
+    let h5 = on (length_right (kind_at t at) s.frame.requests (length_at t at)) WrongLength _ h10.1 in
+    let h6 = on (in_range (kind_at t at) t at s.frame) OutOfRange _ h5.1 in
+    let h8 = on (no_repeat (kind_at t at) t at s.frame) NamedTwice _ h6.1 in
+    let h9 = on (adds_to_zero (kind_at t at) t at) NotZero _ h8.1 in
     record {
       whole = leb-true (after t at) (length t) (both (leb (at + 4) (length t)) (leb (after t at) (length t)) h2.0).1;
       known = h4.0;
@@ -107,12 +94,12 @@ scan_turns (suc n) t at s h g = let e : n ≡ suc n - 1 = omega arith in rw (lt-
 module _ (n : ℕ) (t : List ℕ) (at : ℕ) (s : State) (h : at < length t) (g : length t ≤ n + at) where
   -- it lets the reading go on
   pub scan_goes_on :
-      (next : State) (l : ℕ) → l ≡ length_at t at → step_at t at s ≡ Next next → scan (n - 1) t (at + 4 + l) next ≡ scan n t at s
-  scan_goes_on next l f e = rw (f, scan_turns n t at s h g, e)
+      (next : State) (later : ℕ) → later ≡ after t at → step_at t at s ≡ Ok next → scan (n - 1) t later next ≡ scan n t at s
+  scan_goes_on next later f e = rw (f, scan_turns n t at s h g, e)
 
   -- it stops the reading
-  pub scan_stops : (number : ℕ) → step_at t at s ≡ Stop number → refused_at number at ≡ scan n t at s
-  scan_stops number e = rw (scan_turns n t at s h g, e)
+  pub scan_stops : (fault : Fault) → step_at t at s ≡ Err fault → refused_at fault at ≡ scan n t at s
+  scan_stops fault e = rw (scan_turns n t at s h g, e)
 
 -- a frame's numbers of variables and requests are within their limits
 pub record Small (f : Frame) : Type 0 where

@@ -1,14 +1,7 @@
 -- The kinds of records (document 01, "Table bytes").
 use Rattle.std.specs.Prelude.{ℕ, Bool, true, false, cond, ◌==◌}
-
--- what a record is
-pub data Kind : Type 0 where
-  Head : Kind
-  Clause : Kind
-  Linear : Kind
-  Order : Kind
-  Check : Kind
-  Unknown : Kind
+pub use Rattle.table.specs.declared.kinds.Kind.{Kind}
+pub use Rattle.table.specs.declared.kinds.Kind.TheVariants.{Head, Clause, Linear, Order, Check, Unknown}
 
 -- the kind that a kind number names: kinds 0 and 6 to 65,535 are unknown
 unfoldable pub kind_of : ℕ → Kind

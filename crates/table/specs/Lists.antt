@@ -1,15 +1,14 @@
 -- Tests over lists.
-use Rattle.std.specs.Prelude.{ℕ, Bool, true, false, not, ◌&&◌, ◌||◌, List, [], ◌∷◌, ◌==◌}
+use Rattle.std.specs.Prelude.{ℕ, Bool, true, not, ◌&&◌, List, [], ◌∷◌, ◌==◌}
+use Rattle.std.specs.List.{list_any, list_all}
 
 -- every element passes the test
-unfoldable pub every : {A : Type 0} → (A → Bool) → List A → Bool
-every test [] = true
-every test (x ∷ xs) = test x && every test xs
+abbrev pub every : {A : Type 0} → (A → Bool) → List A → Bool
+every test xs = list_all test xs
 
 -- the number stands in the list
-unfoldable pub among : ℕ → List ℕ → Bool
-among n [] = false
-among n (x ∷ xs) = n == x || among n xs
+abbrev pub among : ℕ → List ℕ → Bool
+among n xs = list_any (λ x. n == x) xs
 
 -- no number stands in the list twice
 unfoldable pub all_different : List ℕ → Bool

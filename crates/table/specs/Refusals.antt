@@ -1,46 +1,30 @@
--- The refusal numbers (document 01, "Refusal numbers") that a table can be given, by name.
+-- The refusal numbers (document 01, "Refusal numbers") of the faults that a table can be refused for.
 use Rattle.std.specs.Prelude.{ℕ}
+pub use Rattle.table.specs.declared.refusals.Fault.{Fault}
+pub use Rattle.table.specs.declared.refusals.Fault.TheVariants.{TooLong, Cut, NoHead, UnknownKind, WrongLength, OutOfRange}
+pub use Rattle.table.specs.declared.refusals.Fault.TheVariants.{OutOfSequence, NamedTwice, NotZero, TooManyRows, NoRecord}
 
+-- the number of a fault
+unfoldable pub number_of : Fault → ℕ
 -- more than 32,768 bytes
-abbrev pub too_long : ℕ
-too_long = 1
-
+number_of TooLong = 1
 -- 1 to 3 bytes left, or the body passes the end
-abbrev pub cut : ℕ
-cut = 2
-
+number_of Cut = 2
 -- the first record is no HEAD, a later one is, or the table is empty
-abbrev pub no_head : ℕ
-no_head = 3
-
+number_of NoHead = 3
 -- unknown kind
-abbrev pub unknown_kind : ℕ
-unknown_kind = 4
-
+number_of UnknownKind = 4
 -- L wrong for its kind
-abbrev pub wrong_length : ℕ
-wrong_length = 5
-
+number_of WrongLength = 5
 -- V, N, role, variable, weight or order number out of range
-abbrev pub out_of_range : ℕ
-out_of_range = 6
-
+number_of OutOfRange = 6
 -- wrong sequence, or the end comes before CHECK
-abbrev pub out_of_sequence : ℕ
-out_of_sequence = 7
-
+number_of OutOfSequence = 7
 -- ORDER names a request twice
-abbrev pub named_twice : ℕ
-named_twice = 8
-
+number_of NamedTwice = 8
 -- words do not add to zero
-abbrev pub not_zero : ℕ
-not_zero = 9
-
+number_of NotZero = 9
 -- a 513th row
-abbrev pub too_many_rows : ℕ
-too_many_rows = 10
-
+number_of TooManyRows = 10
 -- no record of that number
-abbrev pub no_record : ℕ
-no_record = 13
+number_of NoRecord = 13

@@ -1,12 +1,8 @@
 -- The rows of a table as they are meant, read out of its bytes (document 01, "Table bytes").
 use Rattle.std.specs.Prelude.{ℕ, zero, suc, ◌+◌, ◌-◌, ◌/◌, List, [], ◌∷◌, ℤ}
+pub use Rattle.table.specs.declared.terms.Term.{Term}
 use Rattle.table.specs.Words.{u16_at, i32_at, words}
 use Rattle.table.specs.Kinds.{Kind, Head, Clause, Linear, Order, Check, Unknown, kind_of}
-
--- a term of a linear row: weight times the value of the variable
-pub record Term : Type 0 where
-  pub variable : ℕ
-  pub weight : ℤ
 
 -- a row: role 0 is the host, role r is request r; a literal is twice the variable, plus 1 where it is negated
 pub data Row : Type 0 where
@@ -28,6 +24,10 @@ after t at = at + 4 + length_at t at
 -- the term at a place: u16 variable and i32 weight
 unfoldable pub term_at : List ℕ → ℕ → Term
 term_at t i = record { variable = u16_at t i; weight = i32_at t (i + 2) }
+
+-- the term in its six bytes
+abbrev pub term_in : List ℕ → Term
+term_in bytes = term_at bytes 0
 
 -- the k terms from a place on
 unfoldable pub terms : ℕ → List ℕ → ℕ → List Term

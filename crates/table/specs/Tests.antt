@@ -47,6 +47,10 @@ room_for_row Order rows = true
 room_for_row Check rows = true
 room_for_row Unknown rows = true
 
+-- L is `unit` bytes and at most `most` parts of as many bytes each
+unfoldable pub row_length : (unit most l : ℕ) → Bool
+row_length unit most l = nat_le unit l && nat_le l (unit + unit * most) && l % unit == 0
+
 -- 5: L is right for its kind, with n requests
 unfoldable pub length_right : Kind → ℕ → ℕ → Bool
 length_right Head n l = l == 4

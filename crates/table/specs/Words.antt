@@ -21,6 +21,10 @@ unfoldable pub words : ℕ → List ℕ → ℕ → List ℕ
 words zero t i = []
 words (suc k) t i = u16_at t i ∷ words k t (i + 2)
 
+-- the number in the two bytes of a word
+abbrev pub word_in : List ℕ → ℕ
+word_in bytes = u16_at bytes 0
+
 -- what the numbers of a list add up to
 unfoldable pub total : List ℕ → ℕ
 total [] = 0

@@ -1,21 +1,16 @@
 // The CHECK word: the words of a table add to zero, carries past 16 bits thrown away.
-ghost use Rattle.std.specs.Prelude.{◌≡◌, ◌*◌, ◌%◌, ◌^◌, ◌≤◌, length};
-ghost use Rattle.table.specs.Words.{words, total};
+ghost use Rattle.std.specs.Prelude.{◌≡◌, ◌%◌, ◌^◌, map};
+ghost use Rattle.table.specs.Words.{word_in, total};
 
-use crate::words::word;
+use crate::words::value_in;
 
-// The sum of the first `count` words.
-pub fn sum_of_words(table: &[u8], count: usize) -> u16
-    requires { 2 * count ≤ length table.now }
-    ensures { result ≡ total (words count table.now 0) % 2 ^ 16 }
+// The sum of some words.
+#[tactic(auto, using(crate::proofs::Sums::total_fold))]
+pub fn sum_of(words: &[[u8; 2]]) -> u16
+    ensures { result ≡ total (map word_in words.now) % 2 ^ 16 }
 {
-    let mut sum: u16 = 0;
-    let mut at = 0;
-    let mut left = count;
-    while 0 < left {
-        sum = std::num::wrapping_add_u16(sum, word(table, at));
-        at = at + 2;
-        left = left - 1;
-    }
-    sum
+    words
+        .iter()
+        .map(value_in)
+        .fold(0, |sum: u16, word| sum.wrapping_add(word))
 }

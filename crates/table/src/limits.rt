@@ -11,4 +11,4 @@ pub const MOST_LITERALS: usize = 64;
 
 pub const MOST_TERMS: usize = 20;
 
-pub const MOST_WEIGHT: usize = 1000000;
+pub const MOST_WEIGHT: u32 = 1000000;

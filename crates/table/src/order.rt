@@ -1,41 +1,28 @@
 // Whether ORDER names no request twice.
-ghost use Rattle.std.specs.Prelude.{◌≡◌, ◌+◌, ◌*◌, ◌≤◌, length};
+ghost use Rattle.std.specs.Prelude.{◌≡◌, map};
 ghost use Rattle.table.specs.Lists.{among, all_different};
-ghost use Rattle.table.specs.Words.{words};
+ghost use Rattle.table.specs.Words.{word_in};
 
-use crate::words::number;
+use crate::words::number_in;
 
-// Whether `wanted` stands among the `count` words from `from` on.
-fn is_among(table: &[u8], from: usize, count: usize, wanted: usize) -> bool
-    requires { from + 2 * count ≤ length table.now }
-    ensures { result ≡ among wanted (words count table.now from) }
+// Whether `wanted` is one of some words.
+fn is_among(words: &[[u8; 2]], wanted: usize) -> bool
+    ensures { result ≡ among wanted (map word_in words.now) }
 {
-    let mut at = from;
-    let mut left = count;
-    while 0 < left {
-        if wanted == number(table, at) {
-            return true;
-        }
-        at = at + 2;
-        left = left - 1;
-    }
-    false
+    words.iter().map(number_in).any(|word| wanted == word)
 }
 
-// Whether the `count` words from `from` on are all different.
-pub fn are_different(table: &[u8], from: usize, count: usize) -> bool
-    requires { from + 2 * count ≤ length table.now }
-    ensures { result ≡ all_different (words count table.now from) }
+// Whether some words are all different.
+#[tactic(auto, unfolding(crate::specs::Lists::all_different))]
+pub fn are_different(words: &[[u8; 2]]) -> bool
+    ensures { result ≡ all_different (map word_in words.now) }
 {
-    let mut at = from;
-    let mut left = count;
-    while 0 < left {
-        let word = number(table, at);
-        at = at + 2;
-        left = left - 1;
-        if is_among(table, at, left, word) {
+    let mut rest = words;
+    while let Some((first, later)) = rest.split_first() {
+        if is_among(later, number_in(first)) {
             return false;
         }
+        rest = later;
     }
     true
 }

@@ -1,50 +1,30 @@
 // Whether every number of a run lies in its range.
-ghost use Rattle.std.specs.Prelude.{◌≡◌, ◌+◌, ◌*◌, ◌≤◌, length};
+ghost use Rattle.std.specs.Prelude.{◌≡◌, map};
 ghost use Rattle.table.specs.Lists.{every};
-ghost use Rattle.table.specs.Words.{words};
-ghost use Rattle.table.specs.Rows.{terms};
+ghost use Rattle.table.specs.Words.{word_in};
+ghost use Rattle.table.specs.Rows.{term_in};
 ghost use Rattle.table.specs.Limits.{within, term_in_range};
 
 use crate::limits::MOST_WEIGHT;
-use crate::words::{long_number, magnitude, number};
+use crate::terms::term_in;
+use crate::words::number_in;
 
-// Whether the `count` words from `from` on are all at least `low` and below `high`.
-pub fn words_within(table: &[u8], from: usize, count: usize, low: usize, high: usize) -> bool
-    requires { from + 2 * count ≤ length table.now }
-    ensures { result ≡ every (within low high) (words count table.now from) }
+// Whether some words are all at least `low` and below `high`.
+#[tactic(auto, unfolding(crate::specs::Limits::within))]
+pub fn words_within(words: &[[u8; 2]], low: usize, high: usize) -> bool
+    ensures { result ≡ every (within low high) (map word_in words.now) }
 {
-    let mut at = from;
-    let mut left = count;
-    while 0 < left {
-        let word = number(table, at);
-        if word < low {
-            return false;
-        }
-        if high <= word {
-            return false;
-        }
-        at = at + 2;
-        left = left - 1;
-    }
-    true
+    words
+        .iter()
+        .map(number_in)
+        .all(|word| low <= word && word < high)
 }
 
-// Whether the `count` terms from `from` on all name a variable below `variables` with a weight in range.
-pub fn terms_within(table: &[u8], from: usize, count: usize, variables: usize) -> bool
-    requires { from + 6 * count ≤ length table.now }
-    ensures { result ≡ every (term_in_range variables) (terms count table.now from) }
+// Whether some terms all name a variable below `variables` with a weight in range.
+#[tactic(auto, unfolding(crate::specs::Limits::term_in_range))]
+pub fn terms_within(terms: &[[u8; 6]], variables: usize) -> bool
+    ensures { result ≡ every (term_in_range variables) (map term_in terms.now) }
 {
-    let mut at = from;
-    let mut left = count;
-    while 0 < left {
-        if variables <= number(table, at) {
-            return false;
-        }
-        if MOST_WEIGHT < magnitude(long_number(table, at + 2)) {
-            return false;
-        }
-        at = at + 6;
-        left = left - 1;
-    }
-    true
+    terms.iter().map(term_in).all(|term| term.variable < variables
+        && term.weight.unsigned_abs() <= MOST_WEIGHT)
 }

@@ -1,49 +1,40 @@
-// The reading of a table: accepted with its frame, or refused with number and place.
+// The reading of a table: accepted with its frame, or refused with fault and place.
 ghost use Rattle.std.specs.Prelude.{◌≡◌};
 ghost use Rattle.table.specs.Reading.{reading, ending_of};
 
 use crate::limits::MOST_BYTES;
-use crate::record::{Frame, Phase, State, Step};
-use crate::refusals::{NO_HEAD, OUT_OF_SEQUENCE, Refusal, TOO_LONG};
+use crate::record::{Frame, Phase, State};
+use crate::refusals::{Fault, Refusal};
 use crate::sequence::step;
 use crate::words::number;
 
-// What reading a table gives.
-#[derive(Clone, Copy)]
-pub enum Reading {
-    Accepted(Frame),
-    Refused(Refusal),
-}
-
 // The reading where no byte is left at `end`.
-fn ending(phase: Phase, frame: Frame, end: usize) -> Reading
+#[tactic(auto, unfolding(crate::specs::Reading::ending_of))]
+fn ending(phase: Phase, frame: Frame, end: usize) -> Result<Frame, Refusal>
     ensures { result ≡ ending_of phase frame end }
 {
     match phase {
-        Phase::Start => Reading::Refused(Refusal {
-            number: NO_HEAD,
+        Phase::Start => Err(Refusal {
+            fault: Fault::NoHead,
             place: 0,
         }),
-        Phase::Rows => Reading::Refused(Refusal {
-            number: OUT_OF_SEQUENCE,
+        Phase::Rows | Phase::Ordered => Err(Refusal {
+            fault: Fault::OutOfSequence,
             place: end,
         }),
-        Phase::Ordered => Reading::Refused(Refusal {
-            number: OUT_OF_SEQUENCE,
-            place: end,
-        }),
-        Phase::Checked => Reading::Accepted(frame),
+        Phase::Checked => Ok(frame),
     }
 }
 
-// Reads a table. Every table is answered: it is accepted with its frame, or refused with the first number and
+// Reads a table. Every table is answered: it is accepted with its frame, or refused with the first fault and
 // place that document 01's tests give it.
-pub fn read(table: &[u8]) -> Reading
+#[tactic(auto, unfolding(crate::specs::Reading::reading))]
+pub fn read(table: &[u8]) -> Result<Frame, Refusal>
     ensures { result ≡ reading table.now }
 {
     if MOST_BYTES < table.len() {
-        return Reading::Refused(Refusal {
-            number: TOO_LONG,
+        return Err(Refusal {
+            fault: Fault::TooLong,
             place: 0,
         });
     }
@@ -57,17 +48,10 @@ pub fn read(table: &[u8]) -> Reading
             order: 0,
         },
     };
+    // Kept: where the next record begins stands in the record before it, which is tested first: an iterator of records would have the tests in it.
     while at < table.len() {
-        let told = step(table, at, state);
-        match told {
-            Step::Next(next) => {
-                at = at + 4 + number(table, at);
-                state = next;
-            }
-            Step::Stop(number) => return Reading::Refused(Refusal { number, place: at }),
-        }
+        state = step(table, at, state).map_err(|fault| Refusal { fault, place: at })?;
+        at += 4 + number(table, at);
     }
-    let phase = state.phase;
-    let frame = state.frame;
-    ending(phase, frame, table.len())
+    ending(state.phase, state.frame, table.len())
 }

@@ -1,29 +1,37 @@
-// The refusal numbers of document 01 that a table can be given, and a refusal with its place.
-pub const TOO_LONG: u32 = 1;
+// What can be wrong with a table, and a refusal with its place.
+ghost use Rattle.std.specs.Prelude.{◌≡◌};
 
-pub const CUT: u32 = 2;
+// The faults of document 01 that a table can be refused for, each with its refusal number.
+#[derive(Clone, Copy)]
+pub enum Fault {
+    TooLong = 1,
+    Cut = 2,
+    NoHead = 3,
+    UnknownKind = 4,
+    WrongLength = 5,
+    OutOfRange = 6,
+    OutOfSequence = 7,
+    NamedTwice = 8,
+    NotZero = 9,
+    TooManyRows = 10,
+    NoRecord = 13,
+}
 
-pub const NO_HEAD: u32 = 3;
+impl From<Fault> for u32 {
+    ghost use Rattle.table.specs.Refusals.{number_of};
 
-pub const UNKNOWN_KIND: u32 = 4;
+    ghost from_gives = { λ fault number. number ≡ number_of fault };
 
-pub const WRONG_LENGTH: u32 = 5;
+    // The refusal number.
+    #[tactic(auto, unfolding(crate::specs::Refusals::number_of))]
+    fn from(fault: Fault) -> u32 {
+        fault as u32
+    }
+}
 
-pub const OUT_OF_RANGE: u32 = 6;
-
-pub const OUT_OF_SEQUENCE: u32 = 7;
-
-pub const NAMED_TWICE: u32 = 8;
-
-pub const NOT_ZERO: u32 = 9;
-
-pub const TOO_MANY_ROWS: u32 = 10;
-
-pub const NO_RECORD: u32 = 13;
-
-// A refusal number and the byte place that goes with it.
+// A fault and the byte place that goes with it.
 #[derive(Clone, Copy)]
 pub struct Refusal {
-    pub number: u32,
+    pub fault: Fault,
     pub place: usize,
 }

@@ -1,11 +1,13 @@
 -- `preference::depth` gives the least number d with 2^d at least the number of requests.
--- The loop: each halving takes 32 requests or more away, and what d is of the rest tells what it is of all.
-use native.Mathlib.Omega.{arith}
-use Rattle.preference.proofs.Depths.{after_a_cut}
+-- The code's list is the one whose rule is proved; above it d is one more than the whole logarithm of the number before.
+use Rattle.std.proofs.Common.{arith}
+use Rattle.preference.specs.Depth.{depths}
+use Rattle.preference.proofs.Depths.{depths_keep_their_rule, depth_of_logarithm}
 use Rattle.preference.proofs.depth.Goals as goal
 
-pub loop-left-preserved : goal.loop-left-preserved
-loop-left-preserved c = (omega arith, after_a_cut _ _ _ c.loop-left-test.true c.loop-left.invariant.1)
+pub returns-then-requests-lt65 : goal.returns-then-requests-lt65
+unfolding depths
+returns-then-requests-lt65 c = depths_keep_their_rule c.args.requests (omega arith)
 
-pub overflow_add-result : goal.overflow_add-result
-overflow_add-result c = omega (arith, c.listed.ensures.least 6 (omega arith))
+pub returns : goal.returns
+returns c = depth_of_logarithm c.args.requests c.ilog2.result (omega arith) c.ilog2.ensures.power_le c.ilog2.ensures.next_power_gt

@@ -2,4 +2,4 @@
 use Rattle.explain.proofs.halving.+halve_relaxation.Given as goal
 
 abbrev pub decreases-halve_relaxation : goal.decreases-halve_relaxation
-decreases-halve_relaxation l = l.count
+decreases-halve_relaxation l = l.part.count

@@ -1,15 +1,19 @@
 -- `explain::one_by_one::remove_one_by_one` meets its contract.
-use Rattle.explain.specs.Asking.{question_of}
+use Rattle.std.proofs.Common.{arith, length}
+use Rattle.explain.specs.Ranking.{question_over}
 use Rattle.explain.proofs.Trying.{removing_begins, removing_turns, removing_done}
 use Rattle.explain.proofs.one_by_one.remove_one_by_one.Goals as goal
 
-pub loop-left-init : goal.loop-left-init
-loop-left-init c = removing_begins (question_of c.args.table.now c.args.frame c.args.order.now) c.args.flags.now _ c.fill.ensures
+pub loop-place-init : goal.loop-place-init
+loop-place-init c =
+    rw c.fill.ensures.len (removing_begins (question_over c.args.ranked.now) (length c.args.flags.now) _ (c.fill.ensures.after (λ value same. same)))
 
-pub loop-left-preserved : goal.loop-left-preserved
-loop-left-preserved c = removing_turns (question_of c.args.table.now c.args.frame c.args.order.now) _ c.loop-left.flags c.loop-left.asked
-    c.loop-left.left c.loop-left.invariant c.loop-left-test.true c.ask-keep.result c.ask-keep.ensures
+pub overflow_add-asked : goal.overflow_add-asked
+overflow_add-asked c = omega (arith, c.loop-place.invariant.counted)
+
+pub loop-place-preserved : goal.loop-place-preserved
+loop-place-preserved c = removing_turns (question_over c.args.ranked.now) _ c.loop-place.flags c.loop-place.asked
+    c.loop-place.place c.loop-place.invariant c.loop-place-test.true _ c.try_at.ensures
 
 pub returns : goal.returns
-returns c = removing_done (question_of c.args.table.now c.args.frame c.args.order.now) _ c.loop-left.flags
-    c.loop-left.asked c.loop-left.left c.loop-left.invariant c.loop-left-test.false
+returns c = removing_done (question_over c.args.ranked.now) _ c.loop-place.flags c.loop-place.asked c.loop-place.place c.loop-place.invariant (omega arith)

@@ -1,22 +1,32 @@
-use Rattle.meaning.proofs.Clauses.{literal_named, scanned_true, scanned_turn, scanned_end}
-use native.Mathlib.Omega.{arith}
+-- `meaning::literals::clause_state` meets its contract.
+use Rattle.std.proofs.Common.{sym, ◌∙◌}
+use Rattle.std.proofs.lemmas.List.{length-map}
+use Rattle.table.specs.Words.{word_in}
+use Rattle.meaning.proofs.Clauses.{literal_at_hand, literal_named, scanned_met, scanned_open, scanned_fails, scanned_end}
 use Rattle.meaning.proofs.literals.clause_state.Goals as goal
+use Rattle.meaning.proofs.literals.clause_state.Goals.{in-Open, in-Fails}
 
-pub literal_state-here-requires : goal.literal_state-here-requires
-literal_state-here-requires c = omega (arith, literal_named c.args.table.now c.loop-left.at c.loop-left.left c.loop-left-test.true _ c.loop-left.invariant.1)
+pub literal_state-requires : goal.literal_state-requires
+literal_state-requires c =
+    let here = literal_at_hand c.args.literals.now c.loop-literal.literal-index c.number_in.result c.loop-literal-test.true c.number_in.ensures in
+    rw here.1 (literal_named _ _ _ c.requires here.0)
 
-pub returns-then-here-eq0 : goal.returns-then-here-eq0
-returns-then-here-eq0 c = scanned_true _ _ _ _ c.loop-left.at c.loop-left.left c.loop-left.state c.loop-left.invariant.2 c.loop-left-test.true
-    c.number.result c.literal_state-here.result c.number.ensures.0 c.literal_state-here.ensures c.if-here-eq0.true
+pub returns-in-Met : goal.returns-in-Met
+returns-in-Met c =
+    let here = literal_at_hand c.args.literals.now c.loop-literal.literal-index c.number_in.result c.loop-literal-test.true c.number_in.ensures in
+    scanned_met c.args.values.now _ c.loop-literal.literal-index here.0 (rw here.1 at (sym c.in-Met.is ∙ c.literal_state.ensures))
 
-pub loop-left-preserved : goal.loop-left-preserved
-loop-left-preserved c = (
-  omega arith,
-  (literal_named c.args.table.now c.loop-left.at c.loop-left.left c.loop-left-test.true _ c.loop-left.invariant.1).1,
-  scanned_turn _ _ _ _ c.loop-left.at c.loop-left.left c.loop-left.state
-      c.loop-left.invariant.2 c.loop-left-test.true c.number.result c.literal_state-here.result
-      c.number.ensures.0 c.literal_state-here.ensures c.if-here-eq0.false c.with_literal-state.result c.with_literal-state.ensures,
-)
+pub loop-literal-preserved : goal.loop-literal-preserved
+loop-literal-preserved c =
+    let here = literal_at_hand c.args.literals.now c.loop-literal.literal-index c.number_in.result c.loop-literal-test.true c.number_in.ensures in
+    elim c.match-literal_state.branch [
+      | in-Open w ↦ rw w.state-is
+          (scanned_open c.args.values.now _ c.loop-literal.literal-index here.0 c.loop-literal.state c.loop-literal.invariant
+          (rw here.1 at (sym w.in-Open.is ∙ c.literal_state.ensures)))
+      | in-Fails w ↦ rw w.state-is
+          (scanned_fails c.args.values.now _ c.loop-literal.literal-index here.0 c.loop-literal.state c.loop-literal.invariant
+          (rw here.1 at (sym w.in-Fails.is ∙ c.literal_state.ensures)))
+    ]
 
 pub returns : goal.returns
-returns c = scanned_end _ _ _ _ c.loop-left.at c.loop-left.left c.loop-left.state c.loop-left.invariant.2 c.loop-left-test.false
+returns c = scanned_end _ _ c.loop-literal.literal-index _ c.loop-literal.invariant (rw (length-map c.args.literals.now word_in) c.loop-literal-test.false)

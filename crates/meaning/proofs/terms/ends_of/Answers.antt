@@ -1,35 +1,21 @@
-use Rattle.meaning.proofs.Sums.{term_named, least_of_one, most_of_one, summed_start, summed_turn, summed_end}
-use Rattle.meaning.specs.States.{negative_of, positive_of}
-use native.Mathlib.Omega.{arith}
+-- `meaning::terms::ends_of` meets its contract.
+use Rattle.std.proofs.Common.{map, [], arith}
+use Rattle.std.proofs.lemmas.Int.{ints}
+use Rattle.table.specs.Rows.{term_in}
+use Rattle.meaning.proofs.Sums.{term_at_hand, term_named, ends_start, ends_turn}
 use Rattle.meaning.proofs.terms.ends_of.Goals as goal
 
-pub loop-left-init : goal.loop-left-init
-loop-left-init c = (omega arith, omega arith, omega arith, c.requires.named, summed_start _ _ _ _ _, summed_start _ _ _ _ _)
+pub loop-term-init : goal.loop-term-init
+loop-term-init c = ends_start c.args.values.now (map term_in c.args.terms.now)
 
-pub ends_of_term-term-requires : goal.ends_of_term-term-requires
-ends_of_term-term-requires c = (
-  omega arith,
-  (term_named c.args.table.now c.loop-left.at
-      c.loop-left.left c.loop-left-test.true _ c.loop-left.invariant.3).0,
-)
+pub ends_of_term-here-requires : goal.ends_of_term-here-requires
+ends_of_term-here-requires c =
+    let here = term_at_hand c.args.terms.now c.loop-term.term-index c.term_in.result c.loop-term-test.true c.term_in.ensures.0 in
+    rw here.1 (term_named _ _ _ (term_in []) c.requires here.0)
 
-pub loop-left-preserved : goal.loop-left-preserved
-loop-left-preserved c = (
-  omega arith,
-  omega (arith, c.ends_of_term-term.ensures.small),
-  omega (arith, c.ends_of_term-term.ensures.small),
-  (term_named c.args.table.now c.loop-left.at c.loop-left.left c.loop-left-test.true _ c.loop-left.invariant.3).1,
-  summed_turn _ _ _ _ _ c.loop-left.at c.loop-left.left c.loop-left.least c.ends_of_term-term.result.least
-      c.loop-left-test.true (least_of_one _ _ _ _ _ c.ends_of_term-term.ensures) c.loop-left.invariant.4,
-  summed_turn _ _ _ _ _ c.loop-left.at c.loop-left.left c.loop-left.most c.ends_of_term-term.result.most
-      c.loop-left-test.true (most_of_one _ _ _ _ _ c.ends_of_term-term.ensures) c.loop-left.invariant.5,
-)
-
-pub returns : goal.returns
-returns c = record {
-  least_told =
-      summed_end negative_of _ _ _ _ c.loop-left.at c.loop-left.left c.loop-left.least c.loop-left-test.false c.loop-left.invariant.4;
-  most_told =
-      summed_end positive_of _ _ _ _ c.loop-left.at c.loop-left.left c.loop-left.most c.loop-left-test.false c.loop-left.invariant.5;
-  small = (omega arith, omega arith);
-}
+pub loop-term-preserved : goal.loop-term-preserved
+loop-term-preserved c =
+    let here = term_at_hand c.args.terms.now c.loop-term.term-index c.term_in.result c.loop-term-test.true c.term_in.ensures.0 in
+    ends_turn c.args.values.now (map term_in c.args.terms.now) c.loop-term.term-index (term_in []) c.term_in.result _ _ _ _
+    here.0 here.1 c.requires.few c.loop-term.invariant c.ends_of_term-here.ensures _ _
+    (λ far small. omega (arith, ints)) (λ far small. omega (arith, ints))

@@ -1,50 +1,20 @@
-use native.Mathlib.Omega.{arith}
-use mathlib.Core.Path.{◌∙◌}
-use lib.ListN.{length-set}
-use Rattle.meaning.proofs.OneRow.{row_long}
-use Rattle.question.proofs.Noting.{rows_kept_turn, row_here, role_there, note_turn, all_noted}
+use Rattle.std.proofs.Common.{◌∙◌, arith, length-append}
+use Rattle.question.proofs.Noting.{walk_starts, stands_here, role_there, walk_turns}
 use Rattle.question.proofs.places.note_places.Goals as goal
 
-pub overflow_cast-places : goal.overflow_cast-places
-overflow_cast-places c =
-    omega (arith, (row_here _ _ _ c.loop-left.invariant.1 _ _ c.loop-left-test.true c.loop-left.invariant.2).whole, c.requires.0.kept.short)
+pub loop-place-init : goal.loop-place-init
+loop-place-init c = rw (c.into_iter-place-iterator.ensures.into_iter_gives ∙ c.of-place-items.ensures) (walk_starts c.args.table.accepted)
 
-pub overflow_add-at : goal.overflow_add-at
-overflow_add-at c = omega (arith, (row_here _ _ _ c.loop-left.invariant.1 _ _ c.loop-left-test.true c.loop-left.invariant.2).whole, c.requires.0.kept.short)
+pub overflow_cast-places : goal.overflow_cast-places
+overflow_cast-places c = omega (arith, stands_here (rw c.in-Some.ensures.steps at c.loop-place.invariant) c.args.table.accepted)
 
 pub number-requires : goal.number-requires
-number-requires c = omega (
-  arith,
-  (row_here _ _ _ c.loop-left.invariant.1 _ _ c.loop-left-test.true c.loop-left.invariant.2).whole,
-  row_long _ _ _ _ (row_here _ _ _ c.loop-left.invariant.1 _ _ c.loop-left-test.true c.loop-left.invariant.2),
-)
+number-requires c = omega (arith, stands_here (rw c.in-Some.ensures.steps at c.loop-place.invariant) c.args.table.accepted)
 
 pub bounds-chosen-number : goal.bounds-chosen-number
-bounds-chosen-number c = role_there _ _ _ c.loop-left.invariant.1 _ _ c.loop-left-test.true c.loop-left.invariant.2 _ c.number.ensures.0
+bounds-chosen-number c = role_there (rw c.in-Some.ensures.steps at c.loop-place.invariant) c.requires.0 c.number.ensures.0
 
-pub overflow_add-at-in-loop-left : goal.overflow_add-at-in-loop-left
-overflow_add-at-in-loop-left c =
-    omega (arith, (row_here _ _ _ c.loop-left.invariant.1 _ _ c.loop-left-test.true c.loop-left.invariant.2).whole, c.requires.0.kept.short)
-
-pub number-requires-in-loop-left : goal.number-requires-in-loop-left
-number-requires-in-loop-left c = omega (arith, (row_here _ _ _ c.loop-left.invariant.1 _ _ c.loop-left-test.true c.loop-left.invariant.2).whole)
-
-pub overflow_add-at-in-loop-left-2 : goal.overflow_add-at-in-loop-left-2
-overflow_add-at-in-loop-left-2 c =
-    omega (arith, (row_here _ _ _ c.loop-left.invariant.1 _ _ c.loop-left-test.true c.loop-left.invariant.2).whole, c.requires.0.kept.short)
-
-pub loop-left-preserved : goal.loop-left-preserved
-loop-left-preserved c = rw c.number-in-loop-left.ensures.0 (
-  c.loop-left.invariant.0,
-  c.loop-left.invariant.1,
-  (rows_kept_turn _ _ _ _ _ _ c.loop-left-test.true c.loop-left.invariant.2).1,
-  simp length-set (omega arith),
-  simp length-set c.loop-left.invariant.4,
-  note_turn _ _ _ c.loop-left.invariant.1 _ _ c.loop-left-test.true c.loop-left.invariant.2 c.loop-left.places c.loop-left.noted _ _
-      (omega arith) c.number.ensures.0 c.taken_up-noted.ensures.0
-      ∙ c.loop-left.invariant.5,
-)
-
-pub returns : goal.returns
-returns c = all_noted _ _ _ c.loop-left.places c.loop-left.at c.loop-left.left
-    c.loop-left.noted c.loop-left-test.false c.loop-left.invariant.3 c.loop-left.invariant.5
+pub loop-place-preserved : goal.loop-place-preserved
+loop-place-preserved c =
+    let walked = rw c.in-Some.ensures.steps at c.loop-place.invariant in
+    walk_turns walked c.requires.0 (length-append _ _) (omega (arith, stands_here walked c.args.table.accepted)) c.number.ensures.0 c.from-noted.ensures

@@ -1,12 +1,22 @@
-use Prim.Native.Nat.{ℕ}
-use lib.ListN.{replicate}
-use lib.Seq.{length-take-le}
+use Rattle.std.proofs.Common.{Bool, Option, None, replicate, sym}
+use Rattle.std.proofs.lemmas.List.{length-take-le}
 use Rattle.table.specs.Limits.{most_variables}
+use Rattle.table.proofs.Accepted.{accepted_keeps}
 use Rattle.meaning.proofs.HalfMade.{all_free}
 use Rattle.question.proofs.Answering.{answered}
 use Rattle.question.proofs.search.can_stand.Goals as goal
 
+pub slice_bounds-values-end : goal.slice_bounds-values-end
+slice_bounds-values-end c = (accepted_keeps _ _ c.args.table.accepted).few_variables
+
+pub slice_bounds-can_complete-end : goal.slice_bounds-can_complete-end
+slice_bounds-can_complete-end c = sym (length-take-le _ _ (accepted_keeps _ _ c.args.table.accepted).few_variables)
+
+pub can_complete-requires : goal.can_complete-requires
+can_complete-requires c = (c.requires, length-take-le _ _ (accepted_keeps _ _ c.args.table.accepted).few_variables)
+
 pub returns : goal.returns
-returns c = answered c.args.table.now c.args.frame c.args.chosen.now _ _
-    (length-take-le c.args.frame.variables (replicate {A = ℕ} most_variables 2) c.requires.kept.few_variables)
-    (all_free most_variables c.args.frame.variables c.requires.kept.few_variables) c.can_complete.ensures
+returns c = let few = (accepted_keeps _ _ c.args.table.accepted).few_variables in
+    answered c.args.table.bytes.now c.args.table.frame c.args.chosen.now _ _
+    (length-take-le c.args.table.frame.variables (replicate {A = Option Bool} most_variables None) few)
+    (all_free most_variables c.args.table.frame.variables few) c.can_complete.ensures

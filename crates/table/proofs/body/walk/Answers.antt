@@ -1,29 +1,19 @@
 -- `table::body::walk` meets its contract.
-use Rattle.std.proofs.Common.{ap, ◌∙◌, arith}
-use Rattle.table.specs.Body.{stretch_at}
-use Rattle.table.proofs.Bodies.{place_turn, place_here, whole_here, whole_next, none_found, body_found}
+use Rattle.std.proofs.Common.{◌≡◌, ◌+◌, ◌-◌, ap, ◌∙◌, arith}
+use Rattle.table.specs.Body.{place_of_record, stretch_at}
+use Rattle.table.proofs.Bodies.{place_turn, whole_next, none_found}
 use Rattle.table.proofs.body.walk.Goals as goal
 
 pub returns-then-table-at : goal.returns-then-table-at
 returns-then-table-at c =
-    none_found c.args.table.now c.loop-left.at c.loop-left.left c.if-table-at.true ∙ ap (stretch_at c.args.table.now) c.loop-left.invariant.0
+    none_found c.args.table.now c.loop.at (c.args.wanted - c.loop.counter) c.if-table-at.true ∙ ap (stretch_at c.args.table.now) c.loop.invariant.0
 
-pub number-requires : goal.number-requires
-number-requires c = omega (arith, (whole_here c.args.table.now c.loop-left.at c.loop-left.invariant.1 c.if-table-at.false))
-
-pub loop-left-preserved : goal.loop-left-preserved
-loop-left-preserved c = (
-  place_turn c.loop-left.left c.args.table.now c.loop-left.at c.number.result c.loop-left-test.true c.number.ensures.0 ∙ c.loop-left.invariant.0,
-  whole_next c.args.table.now c.loop-left.at c.number.result c.loop-left.invariant.1 c.number.ensures.0,
-)
-
-pub returns-then-table-at-2 : goal.returns-then-table-at-2
-returns-then-table-at-2 c =
-    none_found c.args.table.now c.loop-left.at c.loop-left.left c.if-table-at-2.true ∙ ap (stretch_at c.args.table.now) c.loop-left.invariant.0
-
-pub number-requires-2 : goal.number-requires-2
-number-requires-2 c = omega (arith, (whole_here c.args.table.now c.loop-left.at c.loop-left.invariant.1 c.if-table-at-2.false))
-
-pub returns : goal.returns
-returns c = body_found c.args.table.now c.loop-left.at c.number-2.result c.if-table-at-2.false c.number-2.ensures.0
-    ∙ ap (stretch_at c.args.table.now) (place_here c.loop-left.left c.args.table.now c.loop-left.at c.loop-left-test.false ∙ c.loop-left.invariant.0)
+pub loop-preserved : goal.loop-preserved
+loop-preserved c =
+    let next : c.loop.at + (4 + c.number.result) ≡ c.loop.at + 4 + c.number.result = omega arith in
+    let fewer : c.args.wanted - (c.loop.counter + 1) ≡ c.args.wanted - c.loop.counter - 1 = omega arith in (
+      ap (λ k. place_of_record k c.args.table.now (c.loop.at + (4 + c.number.result))) fewer
+          ∙ place_turn (c.args.wanted - c.loop.counter) c.args.table.now c.loop.at _ (omega arith) (omega (arith, c.number.ensures.0))
+          ∙ c.loop.invariant.0,
+      whole_next c.args.table.now c.loop.at _ c.loop.invariant.1 (omega (arith, c.number.ensures.0)),
+    )

@@ -1,11 +1,11 @@
 -- `table::order::are_different` meets its contract.
-use Rattle.std.proofs.Common.{◌≡◌, ◌+◌, ◌*◌}
-use Rattle.table.specs.Words.{words}
+use Rattle.std.proofs.Common.{◌≡◌, length, map}
+use Rattle.table.specs.Words.{word_in}
 use Rattle.table.specs.Lists.{all_different}
 use Rattle.table.proofs.order.are_different.Given as goal
 
-abbrev pub invariant-loop-left : goal.invariant-loop-left
-invariant-loop-left l = (l.at + 2 * l.left ≡ l.from + 2 * l.count) × (all_different (words l.left l.table l.at) ≡ all_different (words l.count l.table l.from))
+abbrev pub invariant-loop-first : goal.invariant-loop-first
+invariant-loop-first l = all_different (map word_in l.rest) ≡ all_different (map word_in l.words)
 
-abbrev pub decreases-loop-left : goal.decreases-loop-left
-decreases-loop-left l = l.left
+abbrev pub decreases-loop-first : goal.decreases-loop-first
+decreases-loop-first l = length l.rest

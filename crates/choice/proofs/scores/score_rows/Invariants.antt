@@ -1,8 +1,0 @@
-use Rattle.std.proofs.Common.{◌≡◌, ◌-◌, length}
-use Rattle.choice.proofs.scores.score_rows.Given as goal
-
-abbrev pub invariant-loop-next : goal.invariant-loop-next
-invariant-loop-next l = length l.notes ≡ length l.initial.notes
-
-abbrev pub decreases-loop-next : goal.decreases-loop-next
-decreases-loop-next l = l.count - l.next
