@@ -13,14 +13,16 @@ fn literal_state(literal: usize, values: &[Option<bool>]) -> State
     requires { literal < 2 * length values.now }
     ensures { result ≡ literal_state values.now literal }
 {
-    let value = values[literal / 2];
-    if value == Some(literal % 2 == 0) {
-        return State::Met;
+    match values[literal / 2] {
+        None => State::Open,
+        Some(value) => {
+            if value == (literal % 2 == 0) {
+                State::Met
+            } else {
+                State::Fails
+            }
+        }
     }
-    if value.is_none() {
-        return State::Open;
-    }
-    State::Fails
 }
 
 // The state of the clause of some literals.
