@@ -31,21 +31,21 @@ impl Notes {
     }
 
     // Adds to the score of a literal.
-    pub(crate) fn add_score(&mut self, literal: usize, more: u32) {
+    pub fn add_score(&mut self, literal: usize, more: u32) {
         if let Some(score) = self.scores.as_flattened_mut().get_mut(literal) {
             *score = score.wrapping_add(more);
         }
     }
 
     // Sets all scores to 0.
-    pub(crate) fn clear_scores(&mut self) {
+    pub fn clear_scores(&mut self) {
         self.scores.fill([0; 2]);
     }
 
-    // Notes how many levels below a variable's decision are decided blindly.
-    pub(crate) fn note_blind(&mut self, variable: usize, blind: usize) {
+    // Notes how many levels below a variable's decision are decided blindly, as 16 bits hold it.
+    pub fn note_blind(&mut self, variable: usize, blind: usize) {
         if let Some(noted) = self.blind.get_mut(variable) {
-            *noted = blind;
+            *noted = blind % 65536;
         }
     }
 
@@ -55,24 +55,29 @@ impl Notes {
     }
 
     // The score of a variable: what its two literals have together.
-    pub(crate) fn score_of(&self, variable: usize) -> u32 {
+    pub fn score_of(&self, variable: usize) -> u32 {
         match self.scores.get(variable) {
             Some([one, zero]) => one.wrapping_add(*zero),
             None => 0,
         }
     }
 
+    // Whether the literal that is true where the variable is 0 has the higher score.
+    pub fn zero_is_better(&self, variable: usize) -> bool {
+        match self.scores.get(variable) {
+            Some([one, zero]) => *one < *zero,
+            None => false,
+        }
+    }
+
     // The value that makes the literal with the higher score true; 1 where both have one score.
     pub(crate) fn better_value(&self, variable: usize) -> bool {
-        match self.scores.get(variable) {
-            Some([one, zero]) => *zero <= *one,
-            None => true,
-        }
+        !self.zero_is_better(variable)
     }
 
     // What variables are compared by: dearness first, then score; 0 where the variable has no score.
     // Kept: one number, and 0 for none, which is below every other: two that are compared one after the other (a tuple) made a question 4 % slower.
-    pub(crate) fn rank_of(&self, variable: usize) -> u64 {
+    pub fn rank_of(&self, variable: usize) -> u64 {
         let score = self.score_of(variable);
         if score == 0 {
             return 0;
@@ -94,11 +99,11 @@ impl Notes {
     // Makes variables dearer where a row failed only after many others were tested: those that were decided since the rows were scored.
     // They choose which row fails; once they are decided early, the same rows fail again and again, and these are tested first.
     pub fn blame(&mut self, values: &[Option<bool>], tested: usize) {
-        let more = u32::try_from(tested / 16).unwrap_or(u32::MAX);
+        let more = u32::try_from(tested / 16 % 65536).unwrap_or(u32::MAX);
         if more == 0 {
             return;
         }
-        for variable in 0..values.len() {
+        for variable in 0..MOST_VARIABLES {
             self.make_dearer(values, variable, more);
         }
     }
