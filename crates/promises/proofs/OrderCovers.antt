@@ -1,7 +1,8 @@
 -- The order of an accepted table names every request: N different numbers of 1 to N leave none out.
-use Rattle.std.proofs.Common.{ℕ, ◌+◌, ◌≤◌, ◌<◌, ◌≡◌, refl, Bool, true, false, ◌||◌, not, List}
+use Rattle.std.proofs.Common.{ℕ, suc, ◌+◌, ◌≤◌, ◌<◌, ◌≡◌, refl, Bool, true, false, ◌||◌, not, List}
 use Rattle.std.proofs.Common.{[], ◌∷◌, arith, eqb, leb, ltb, length, eqb-true, ne_eqb, leb-true, ltb-true, le-leb, lt-ltb}
 use borrow.Author.Tests.{not-true}
+use Rattle.std.proofs.lemmas.Bool.{eqb-false}
 use Rattle.std.specs.List.{AllByRecursion, IsDistinct, list_any}
 use Rattle.std.proofs.lemmas.Map.Steps.{length-le_from_distinct_below}
 use Rattle.table.specs.declared.record.Frame.{Frame}
@@ -15,6 +16,19 @@ use Rattle.table.proofs.RecordsStand.{length-words}
 neither : (a b : Bool) → (a || b) ≡ false → (a ≡ false) × (b ≡ false)
 neither false b e = (refl, e)
 neither true b e = cc
+
+-- numbers of 1 to m + 1 without m + 1 are numbers of 1 to m
+one_lower : (m : ℕ) (xs : List ℕ) → every (within 1 (suc m + 1)) xs ≡ true → among (suc m) xs ≡ false → every (within 1 (m + 1)) xs ≡ true
+unfolding within
+one_lower m [] e f = refl
+one_lower m (x ∷ xs) e f =
+    let g = both (within 1 (suc m + 1) x) (every (within 1 (suc m + 1)) xs) e in
+    let h = neither (eqb (suc m) x) (among (suc m) xs) f in
+    let range = both (leb 1 x) (ltb x (suc m + 1)) g.0 in
+    let high = ltb-true x (suc m + 1) range.1 in
+    let other = eqb-false (suc m) x h.0 in
+    let low : x < m + 1 = omega arith in
+    rw (range.0, lt-ltb x (m + 1) low) (one_lower m xs g.1 h.1)
 
 -- a number that is not in a list differs from each in it
 each_other : (n : ℕ) (xs : List ℕ) → among n xs ≡ false → AllByRecursion (λ x. eqb n x ≡ false) xs

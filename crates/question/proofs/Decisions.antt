@@ -1,27 +1,41 @@
 -- The decisions of a trail, and the loop that takes some of them back: what it keeps.
-use Rattle.std.proofs.Common.{◌≡◌, ℕ, suc, ◌+◌, ◌-◌, ◌<◌, ◌≤◌, Bool, true, false, cond, eqb, List, [], ◌∷◌, length, get_or, set, reverse, take, Some, None}
-use Rattle.std.proofs.Common.{refl, sym, ap, ◌∙◌, arith, eq-eqb, ne_eqb, eqb-true}
+use Rattle.std.proofs.Common.{◌≡◌, ℕ, zero, suc, ◌+◌, ◌-◌, ◌<◌, ◌≤◌, Bool, true, false, cond, eqb, List, [], ◌∷◌, length, get_or, set}
+use Rattle.std.proofs.Common.{reverse, take, Some, None, refl, sym, ap, ◌∙◌, arith, eq-eqb, ne_eqb, eqb-true}
 use Rattle.std.proofs.lemmas.Bool.{eqb-false}
-use Rattle.std.proofs.lemmas.List.{length-set, length-take-le, get_or-take, ext_get_or, reverse-append, take_more_set}
+use Rattle.std.proofs.lemmas.List.{length-set, reverse-append, take_more_set}
 use Rattle.std.proofs.Math.Seq.{take-suc}
 use Rattle.std.proofs.lemmas.List.Elements.{All-tail}
 use Rattle.meaning.specs.HalfMade.{Values}
 use Rattle.question.specs.declared.trail.Decided.{Decided}
 use Rattle.question.specs.Trail.{decisions, EachInside, back_to, values_back, TakenBack}
 
+-- no entry is equal to every one that may be read past a list's end
+not_each : (x : Decided) → ((d : Decided) → x ≡ d) → ⊥
+not_each x each =
+    let e : ◌≡◌ {A = ℕ} 0 1 =
+    ap (λ (decided : Decided). decided.variable)
+    (sym (each (record { variable = 0; waiting = 0 })) ∙ each (record { variable = 1; waiting = 0 })) in
+    omega arith
+
+same_front :
+    (entries others : List Decided) (depth : ℕ) →
+    ((k : ℕ) (d : Decided) → k < depth → get_or others k d ≡ get_or entries k d) →
+    take depth others ≡ take depth entries
+same_front entries others zero same = refl
+same_front [] [] (suc depth) same = refl
+same_front [] (y ∷ others) (suc depth) same = absurd (not_each y (λ d. same 0 d (omega arith)))
+same_front (x ∷ entries) [] (suc depth) same = absurd (not_each x (λ d. sym (same 0 d (omega arith))))
+same_front (x ∷ entries) (y ∷ others) (suc depth) same =
+    let e : y ≡ x = same 0 x (omega arith) in
+    let rest : take depth others ≡ take depth entries = same_front entries others depth (λ k d h. same (suc k) d (omega arith)) in
+    rw (e, rest) refl
+
 -- trails that are equal in their first entries have the same decisions
 pub decisions_same :
     (entries others : List Decided) (depth : ℕ) →
-    depth ≤ length entries →
-    depth ≤ length others →
     ((k : ℕ) (d : Decided) → k < depth → get_or others k d ≡ get_or entries k d) →
     decisions others depth ≡ decisions entries depth
-decisions_same entries others depth a b same =
-    let none : Decided = record { variable = 0; waiting = 0 } in
-    let one : length (take depth entries) ≡ depth = length-take-le depth entries a in
-    let other : length (take depth others) ≡ depth = length-take-le depth others b in
-    ap reverse (ext_get_or none (take depth others) (take depth entries) (other ∙ sym one)
-    (λ k h. let below : k < depth = omega arith in rw (get_or-take depth others k none below, get_or-take depth entries k none below) (same k none below)))
+decisions_same entries others depth same = ap reverse (same_front entries others depth same)
 
 -- one decision more
 pub decisions_more :
@@ -53,6 +67,16 @@ pub decisions_turned :
 decisions_turned entries depth variable some few =
     let e : depth - 1 + 1 ≡ depth = omega arith in
     rw e at (decisions_more entries (depth - 1) (record { variable = variable; waiting = 0 }) (omega arith))
+
+-- taking decisions back leaves no more of them
+pub back_to_most : (trail : List Decided) → length (back_to trail) ≤ length trail
+unfolding back_to
+back_to_most [] = omega arith
+back_to_most (last ∷ earlier) = go (eqb last.waiting 0) (back_to_most earlier)
+  where
+    go : (none : Bool) → length (back_to earlier) ≤ length earlier → length (cond none (back_to earlier) (last ∷ earlier)) ≤ suc (length earlier)
+    go true h = omega (arith, h)
+    go false h = omega arith
 
 module _ (trail : List Decided) (values : Values) where
   -- how far the loop has come: what is to be taken back of the decisions that are left is what was to be taken back of all

@@ -1,7 +1,8 @@
 -- Each way out of a look at a half-made setting.
 use Rattle.std.proofs.Common.{sym, ◌≡◌, ℕ, ◌<◌, Bool, true, false, ltb, List, ◌++◌, length, get_or, take, drop, refl, arith, IsPermutation, Ok, Err}
 use Rattle.std.proofs.Common.{ltb-true, ltb-false}
-use Rattle.std.proofs.lemmas.List.{get_or-take, length-take-le}
+use Rattle.std.specs.List.{AllWithin}
+use Rattle.std.proofs.lemmas.List.{get_or-take, length-take, length-take-le}
 use Rattle.std.proofs.lemmas.List.Elements.{All-take}
 use Rattle.std.proofs.lemmas.List.Sorted.{IsPermutation-sym, IsPermutation-trans, All-permutation}
 use Rattle.meaning.specs.Meaning.{Setting}
@@ -36,7 +37,21 @@ module _ (t before after : List ℕ) (moved : IsPermutation before after) (setti
 pub met_front : (t places : List ℕ) (few : ℕ) (setting : Setting) → MeetsEach t places setting → MeetsEach t (take few places) setting
 met_front t places few setting met = record { each = All-take (MeetsAt t setting) few places met.each }
 
--- a setting that meets the rows that are left meets all, where it has the decided values
+-- a setting that meets the rows that are left meets all, where it meets the others
+pub met_parts :
+    (t places : List ℕ) (left : ℕ) (setting : Setting) →
+    AllWithin (MeetsAt t setting) places left (length places) →
+    MeetsEach t (take left places) setting →
+    MeetsEach t places setting
+met_parts t places left setting others met = record { each = λ k d h. at_place k d h (ltb k left) refl }
+  where
+    at_place : (k d : ℕ) → k < length places → (less : Bool) → ltb k left ≡ less → MeetsAt t setting (get_or places k d)
+    at_place k d h true p =
+        let below : k < left = ltb-true k left p in
+        rw (get_or-take left places k d below) at (met.each k d (omega (arith, length-take left places)))
+    at_place k d h false p = others k d (ltb-false k left p) h
+
+-- so it does where it has the decided values
 pub met_whole :
     (t : List ℕ) (values : Values) (places : List ℕ) (left : ℕ) →
     OpenInFront t values places left →
@@ -44,14 +59,8 @@ pub met_whole :
     Agrees values setting →
     MeetsEach t (take left places) setting →
     MeetsEach t places setting
-met_whole t values places left in_front setting agrees met = record { each = λ k d h. at_place k d h (ltb k left) refl }
-  where
-    at_place : (k d : ℕ) → k < length places → (less : Bool) → ltb k left ≡ less → MeetsAt t setting (get_or places k d)
-    at_place k d h true p =
-        let below : k < left = ltb-true k left p in
-        let long : length (take left places) ≡ left = length-take-le left places in_front.few in
-        rw (get_or-take left places k d below) at (met.each k d (omega arith))
-    at_place k d h false p = in_front.hold k d (ltb-false k left p) h setting agrees
+met_whole t values places left in_front setting agrees =
+    met_parts t places left setting (λ k d after h. in_front.hold k d after h setting agrees)
 
 -- some row fails
 pub row_fails :

@@ -1,11 +1,19 @@
 -- Runs of stores, one after the other.
-use Rattle.std.proofs.Common.{ℕ, ◌+◌, ◌-◌, ◌*◌, ◌<◌, ◌≤◌, ◌%◌, ◌/◌, ◌^◌, ◌≡◌, refl, sym, ap, ◌∙◌, List, ◌++◌, length, take, drop, append_assoc, arith}
+use Rattle.std.proofs.Common.{ℕ, suc, ◌+◌, ◌-◌, ◌*◌, ◌<◌, ◌≤◌, ◌%◌, ◌/◌, ◌^◌, ◌≡◌, refl, sym, ap, ◌∙◌, add-zero, arith}
+use Rattle.std.proofs.Common.{List, [], ◌∷◌, ◌++◌, length, take, drop, set, append_assoc}
 use Rattle.std.specs.Int.{to_le_bytes, w16, w32}
 use Rattle.std.proofs.lemmas.List.Edits.{sets, sets-eq}
 use Rattle.std.proofs.lemmas.List.{drop-drop}
 use borrow.Rule.Slice.PartMut.{put_mid}
 use Rattle.table.specs.Encoding.{u16, u32}
 use Rattle.report.specs.Written.{head_bytes}
+
+-- a run of stores that is cut in two
+pub sets-append : (l : List ℕ) (i : ℕ) (front back : List ℕ) → sets l i (front ++ back) ≡ sets (sets l i front) (i + length front) back
+sets-append l i [] back = rw add-zero
+sets-append l i (x ∷ front) back =
+    let e : suc i + length front ≡ i + suc (length front) = omega arith in
+    sets-append (set l i x) (suc i) front back ∙ ap (λ (n : ℕ). sets (sets (set l i x) (suc i) front) n back) e
 
 -- bytes copied into a part of a list are stored there
 pub stored_part :
